@@ -7,7 +7,7 @@
 
 import { canBeGiven, isKnown, LOCAL, LocalNames } from './local_names.mjs';
 import { textIn } from './metadata.mjs';
-import { membersOf, read } from './op_reading.mjs';
+import { membersOf } from './op_text.mjs';
 import {
   areEqual, changed, recordsIn, withEach, withMessage, without, withText, withTexts, written,
 } from './records.mjs';
@@ -50,11 +50,8 @@ class Entry {
     }
     if (op.exec) return this.member(entry, EXEC, (records) => this.execution(op.exec, records));
     if (!op.file) return entry;
-    let number = 0;
-    return this.member(entry, FILE, (held) => withEach(held, 2, (action) => {
-      number += 1;
-      return this.action(number - 1, action);
-    }));
+    const actions = op.file.actions.entries();
+    return this.member(entry, FILE, (held) => withEach(held, 2, (one) => this.action(one, ...actions.next().value)));
   }
 
   member(entry, field, change) {
@@ -63,7 +60,8 @@ class Entry {
   }
 
   execution(exec, records) {
-    let left = withEach(records, 2, (held) => this.mount(held));
+    const mounts = exec.mounts.values();
+    let left = withEach(records, 2, (held) => this.mount(held, mounts.next().value));
     if (exec.secretenv.length) {
       const names = exec.secretenv.map((held) => textIn(held, 2) || textIn(held, 1));
       this.changes.push(`dropped: secret environment ${names.join(', ')}`);
@@ -75,34 +73,33 @@ class Entry {
     return withMessage(left, 1, (held) => changed(held, (meta) => withTexts(meta, 1, NOTHING)));
   }
 
-  mount(held) {
-    const { mountType, dest } = read('Mount', held);
+  mount(held, { mountType, dest }) {
     if (!DROPPED_MOUNTS.has(mountType)) return held;
     this.changes.push(`dropped: ${DROPPED_MOUNTS.get(mountType)} mount at ${dest}`);
     return null;
   }
 
-  action(number, held) {
-    const { kind } = read('FileAction', held);
+  action(held, number, action) {
+    const { kind } = action;
     if (!Object.hasOwn(OWNERS, kind ?? '')) return held;
     const [field, owner] = OWNERS[kind];
-    const change = (records) => this.actionMember(number, kind, owner, records);
+    const change = (records) => this.actionMember(number, action, owner, records);
     const members = membersOf('FileAction');
     return changed(held, (records) => withMessage(records, field, (one) => changed(one, change), members));
   }
 
-  actionMember(number, kind, owner, records) {
+  actionMember(number, action, owner, records) {
+    const { kind, [kind]: { owner: users } } = action;
     let left = records;
     const unpacks = kind === 'copy' ? records.findLast((record) => record.field === UNPACK) : null;
     if (unpacks && Number(unpacks.held) !== 0) {
       this.changes.push(`dropped: unpacking by action ${number}`);
       left = without(left, UNPACK);
     }
-    return withMessage(left, owner, (held) => changed(held, (users) => this.owner(number, held, users)));
+    return withMessage(left, owner, (held) => changed(held, (old) => this.owner(number, users, old)));
   }
 
-  owner(number, held, records) {
-    const { user, group } = read('ChownOpt', held);
+  owner(number, { user, group }, records) {
     let left = records;
     for (const [field, who, given] of [[1, 'user', user], [2, 'group', group]]) {
       if (given?.byName !== null && given?.byName !== undefined) {
@@ -159,8 +156,7 @@ class Adoption {
     return inputsFirst(ops, (row) => this.rows.linksOf(row).filter((one) => among.has(one)));
   }
 
-  input(held) {
-    const { digest } = read('Input', held);
+  input(held, { digest }) {
     const fresh = this.fresh.get(digest) ?? digest;
     return fresh === digest ? held : changed(held, (records) => withText(records, 1, fresh));
   }
@@ -168,8 +164,10 @@ class Adoption {
   adoptRow(row) {
     const { digest, bytes } = this.rows.entries[row];
     const one = new Entry(this.local, this.refused.has(row));
-    const entry = one.changedOp(digest, bytes, this.rows.ops.get(row));
-    const linked = changed(entry, (records) => withEach(records, 1, (held) => this.input(held)));
+    const op = this.rows.ops.get(row);
+    const inputs = op.inputs.values();
+    const entry = one.changedOp(digest, bytes, op);
+    const linked = changed(entry, (records) => withEach(records, 1, (held) => this.input(held, inputs.next().value)));
     if (!areEqual(linked, entry)) one.changes.push('its inputs have new digests');
     this.made.set(digest, linked);
     this.fresh.set(digest, areEqual(linked, bytes) ? digest : this.digestOf(linked));

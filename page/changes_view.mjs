@@ -53,7 +53,7 @@ export class ChangesView {
     const words = this.happened();
     const { event } = this.session.ways.at;
     const found = await this.looker.look(this.chosen ?? '');
-    if (event !== this.session.ways.at.event) return null;
+    if (!found || event !== this.session.ways.at.event) return null;
     const parts = found.compared.map((part, number) => this.compared(part, number));
     const nothing = make('p', { class: 'note', text: event ? 'It changed no path of a tree.' : '' });
     by('changes').replaceChildren(...(parts.length ? parts : [nothing]));

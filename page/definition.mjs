@@ -1,18 +1,17 @@
 /**
  * What a definition says of its vertices beside what the machine shows of them: names and places of the metadata, what
- * an op does in a line, the trees that actions are done on, and the mounts of executions. Digests are the machine's,
- * and it says which entries are vertices, in which order, and of which kind.
+ * an op does in a line, the trees that actions are done on, and the mounts of executions. Digests and ops are the
+ * machine's, and it says which entries are vertices, in which order, and of which kind.
  */
 
-import { digestsOf } from './digests.mjs';
+import { digestsOf, entriesIn } from './digests.mjs';
 import { LOCAL } from './local_names.mjs';
 import { Metadata, namesIn, placeInWords } from './metadata.mjs';
-import { entriesIn, readOp } from './op_reading.mjs';
-import { recordsIn } from './records.mjs';
+import { STATUS } from './machine.mjs';
+import { endsOf, Ops } from './op_text.mjs';
 
 const MODES = ['shared', 'private', 'locked'];
 const CACHE = 3;
-const [EXEC, SOURCE] = [2, 3];
 const NOTHING = { line: '', actions: [], commands: [], mounts: [] };
 
 function optional(read, otherwise) {
@@ -23,16 +22,16 @@ function optional(read, otherwise) {
   }
 }
 
-function actionOf({ input, kind, ...members }) {
+function actionOf({ input, secondaryInput: from, output, kind, ...members }) {
   const body = members[kind] ?? {};
   const line = kind === 'copy' ? `copy ${body.src} ${body.dest}` : `${kind ?? 'action'} ${body.path ?? ''}`;
-  return { input, line };
+  return { input, from, output, line };
 }
 
-function mountOf({ dest, selector, readonly, mountType, cacheOpt, input }, inputs) {
+function mountOf({ dest, selector, readonly, mountType, cacheOpt, input, output }, inputs) {
   const seed = inputs[input];
   return {
-    dest, selector, input, isReadonly: readonly, isCache: mountType === CACHE, id: cacheOpt?.ID ?? '',
+    dest, selector, input, output, isReadonly: readonly, isCache: mountType === CACHE, id: cacheOpt?.ID ?? '',
     mode: MODES[cacheOpt?.sharing ?? 0], seed: seed ? `${seed.digest}.${seed.index}` : '-',
   };
 }
@@ -59,18 +58,20 @@ function opInWords({ kind, inputs, ...op }) {
 
 /** An entry of a definition. All of it is read when it is asked for. */
 class Entry {
-  constructor(row, digest, bytes, about) {
+  constructor(row, digest, bytes, about, ops) {
     this.row = row;
     this.digest = digest;
     this.bytes = bytes;
     this.about = about;
+    this.ops = ops;
+    this.word = null;
     this.read = null;
     this.words = null;
   }
 
   /** The op, or null where it can't be read. */
   get op() {
-    this.read ??= { op: optional(() => readOp(this.bytes), null) };
+    this.read ??= { op: this.ops.read(this.row) };
     return this.read.op;
   }
 
@@ -79,14 +80,13 @@ class Entry {
     return this.words;
   }
 
-  get kind() { return this.op?.kind ?? ''; }
-
-  // Whether a record of a field is there, which is known without reading the whole op.
-  has(field) {
-    return optional(() => [...recordsIn(this.bytes)].some((record) => record.field === field), false);
+  /** The kind of the op, which is known without reading all of it. */
+  get kind() {
+    this.word ??= this.ops.kindOf(this.row);
+    return this.word;
   }
 
-  get isSource() { return this.has(SOURCE) && this.kind === 'source'; }
+  get isSource() { return this.kind === 'source'; }
 
   get line() { return this.inWords.line; }
 
@@ -94,7 +94,7 @@ class Entry {
 
   get commands() { return this.inWords.commands; }
 
-  get mounts() { return this.has(EXEC) ? this.inWords.mounts : []; }
+  get mounts() { return this.kind === 'exec' ? this.inWords.mounts : []; }
 
   get metadata() { return this.about.of(this.digest); }
 
@@ -110,25 +110,43 @@ class Entry {
 }
 
 const known = new WeakMap();
-const digestsKept = new WeakMap();
+const kept = new WeakMap();
 
-/** Keeps the digests of a definition's entries, which a machine made elsewhere. */
-export function keepDigests(definition, digests) {
-  digestsKept.set(definition, digests);
+/** Keeps what a machine said of a definition's entries elsewhere, as `saidOf` returns it. */
+export function keepSaid(definition, said) {
+  kept.set(definition, said);
 }
 
-/** Returns the digests of a definition's entries, by row. */
-export function digestsOfRows(machine, definition) {
-  return entriesOf(machine, definition).rows.map(({ digest }) => digest);
+// Returns the text of a definition's ops, and where each entry ends in it; no text if it can't be read.
+function opsOf(machine, definition) {
+  const handle = machine.handle();
+  const text = handle.ops(definition) === STATUS.done ? handle.output() : new Uint8Array(0);
+  return { text, ends: endsOf(text) };
+}
+
+/** Returns what the machine says of a definition's entries: their digests and their ops, which are kept. */
+export function saidOf(machine, definition) {
+  if (!kept.has(definition)) {
+    const all = optional(() => entriesIn(definition), []);
+    const digests = optional(() => digestsOf(machine.handle(), all), []);
+    keepSaid(definition, { digests, ops: opsOf(machine, definition) });
+  }
+  return kept.get(definition);
+}
+
+/** Returns the text of a definition's ops. */
+export function opsText(machine, definition) {
+  return new TextDecoder().decode(saidOf(machine, definition).ops.text);
 }
 
 /** Returns the entries of a definition by row, and the first one of each digest; they are kept with its bytes. */
 export function entriesOf(machine, definition) {
   if (known.has(definition)) return known.get(definition);
   const all = optional(() => entriesIn(definition), []);
-  const digests = digestsKept.get(definition) ?? optional(() => digestsOf(machine.handle(), all), []);
+  const { digests, ops: said } = saidOf(machine, definition);
   const about = new Metadata(definition);
-  const rows = digests.map((digest, row) => new Entry(row, digest, all[row], about));
+  const ops = new Ops(said, digests);
+  const rows = digests.map((digest, row) => new Entry(row, digest, all[row], about, ops));
   const first = new Map();
   for (const entry of rows) if (!first.has(entry.digest)) first.set(entry.digest, entry);
   const found = { rows, first };

@@ -3,11 +3,12 @@
  * opened at once, as far along the record as it goes; of what it refuses the line is marked, and the graph stays.
  */
 
+import { opsText } from './definition.mjs';
 import { by } from './dom.mjs';
 import { entryAt, entryLines } from './entry_lines.mjs';
 import { explained } from './faults.mjs';
 import { definitionOf } from './reading.mjs';
-import { disassembled, refusalOf } from './session.mjs';
+import { refusalOf } from './session.mjs';
 
 const NAME = 'llbm-text';
 const PAUSE = 400;
@@ -75,31 +76,25 @@ export class DefinitionView {
     this.say('');
     by('views').classList.toggle('with-text', this.isShown);
     // What a person is writing stays as it is.
-    if (this.isEdited && text === this.field.value) this.count();
-    else if (this.isShown) this.fill();
+    const isWriting = this.isEdited && text === this.field.value;
     this.isEdited = false;
+    if (isWriting) this.count();
+    else if (this.isShown) this.fill();
   }
 
   // Puts the text into the field, or says why there is none.
   fill() {
     const isLarge = this.text === null && this.definition.length > MOST_BYTES;
-    const text = isLarge ? '' : this.text ?? this.written();
+    const text = isLarge ? '' : this.text ??= opsText(this.machine, this.definition);
     const isLong = isLarge || text.length > MOST_LETTERS;
     if (isLong) this.say('This definition is too large to be edited here.');
     this.field.disabled = isLong;
     const shown = isLong ? '' : text;
     if (this.field.value !== shown) this.field.value = shown;
     this.count();
-  }
-
-  written() {
-    try {
-      this.text = disassembled(this.machine, this.definition);
-    } catch ({ message }) {
-      this.say(`It has no text: ${message}`);
-      this.text = '';
-    }
-    return this.text;
+    const { row } = this;
+    this.row = null;
+    this.mark(row);
   }
 
   count() {

@@ -1,13 +1,17 @@
-/** The worker that reads a definition, or the text of its entries, so that a long one does not stop the page. */
+/** The worker that reads a definition or a text of entries, or makes that text, so that a long one stops no page. */
 
 import { Machine } from './machine.mjs';
-import { readDefinition } from './session.mjs';
+import { disassembled, readDefinition } from './session.mjs';
 import { loadTables } from './tables.mjs';
 
-addEventListener('message', async ({ data: { module, bytes, isWritten } }) => {
+addEventListener('message', async ({ data: { module, bytes, isWritten, isText } }) => {
   try {
-    await loadTables('tables.json');
-    postMessage({ value: readDefinition(new Machine(module), bytes, isWritten) });
+    const machine = new Machine(module);
+    if (isText) postMessage({ value: { text: disassembled(machine, bytes) } });
+    else {
+      await loadTables('tables.json');
+      postMessage({ value: readDefinition(machine, bytes, isWritten) });
+    }
   } catch ({ message, what }) {
     postMessage({ fault: message, what });
   }

@@ -1,12 +1,18 @@
 /** The digests of entries, which the machine makes: it assembles a text in which an op names each of them. */
 
 import { STATUS } from './machine.mjs';
-import { entriesIn, readOp } from './op_reading.mjs';
+import { textIn } from './metadata.mjs';
+import { bytesIn, recordsIn } from './records.mjs';
 
 // An op has at most so many inputs. A text of so many bytes more than the largest entry is within the machine's limits.
 const MOST = 1024;
 const MOST_BYTES = 8 << 20;
 const HEX = Array.from({ length: 256 }, (_, byte) => byte.toString(16).padStart(2, '0'));
+
+/** Returns the entries of a definition. */
+export function entriesIn(definition) {
+  return [...recordsIn(definition)].filter((record) => record.field === 1).map(bytesIn);
+}
 
 function rawLine(bytes) {
   let digits = '';
@@ -18,7 +24,7 @@ function digestsOfPart(handle, entries) {
   const named = entries.map((_, i) => `inputs {\ndigest %${i}\n}\n`);
   const status = handle.asm(`${entries.map(rawLine).join('')}op {\n${named.join('')}}\n`);
   if (status !== STATUS.done) throw new Error(handle.messages().trim() || 'no memory');
-  return readOp(entriesIn(handle.output()).at(-1)).inputs.map(({ digest }) => digest);
+  return [...recordsIn(entriesIn(handle.output()).at(-1))].map((input) => textIn(bytesIn(input), 1));
 }
 
 /** Returns the digests of entries, given as bytes. The handle is one that has no session. */

@@ -2,7 +2,7 @@
  * The ways that a session went: a tree of events, in which each path from the root is a record. Going back and on with
  * another event begins a way of its own; what was done before stays.
  *
- * A record can have 200,000 events, so no call but `path`, `branches` and `route` walks over places: whether one place
+ * A record can have 200,000 events, so no call but `path`, `between` and `route` walks over places: whether one place
  * is before another follows from the ways between them, which are few.
  */
 
@@ -121,24 +121,37 @@ export class Ways {
     return this.last;
   }
 
-  /** Returns for each way the places that are its own, in order, with the place that it began at. */
-  branches() {
-    return this.newest.map((newest, way) => {
-      const places = this.path(newest).filter((place) => place.way === way && place.event);
-      return { way, places, from: places[0]?.before ?? this.root };
+  // Returns the last place that is on the way to both of two places.
+  meet(place, other) {
+    let [one, two] = [place, other];
+    while (one.way !== two.way) {
+      // A way begins on one of the ways before it.
+      if (one.way > two.way) one = this.first[one.way].before;
+      else two = this.first[two.way].before;
+    }
+    return one.number <= two.number ? one : two;
+  }
+
+  /** Returns the parts of ways that are not on the way to a place: each with its way, its last place, and how many. */
+  beside(place) {
+    const used = new Map();
+    for (let one = place; one; one = this.first[one.way].before) used.set(one.way, one.number);
+    return this.newest.flatMap((last, way) => {
+      const most = used.get(way) ?? this.first[way].number - 1;
+      return last.number > most ? [{ way, last, count: last.number - most }] : [];
     });
+  }
+
+  /** Returns so many places that end with a given one, in order. */
+  between(last, count) {
+    const found = [];
+    for (let one = last; found.length < count; one = one.before) found.push(one);
+    return found.reverse();
   }
 
   /** Returns how to get to a place from another one: how many events back, and the places from there. */
   route(place, from = this.at) {
-    const forth = [];
-    let [one, other] = [place, from];
-    while (one !== other) {
-      if (one.number >= other.number) {
-        forth.push(one);
-        one = one.before;
-      } else other = other.before;
-    }
-    return { back: from.number - one.number, forth: forth.reverse() };
+    const meet = this.meet(place, from);
+    return { back: from.number - meet.number, forth: this.between(place, place.number - meet.number) };
   }
 }

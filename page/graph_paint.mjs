@@ -10,6 +10,8 @@ const WORDS = ['unneeded', 'waiting', 'ready', 'done', 'taken', 'blocked', 'runn
 const LAST = new Set(['running', 'failed', 'refused']);
 const LEAST_TEXT = 13;
 const MOST_EDGES = 3000;
+// In each turn the rows of about so many boxes are gone over.
+const MOST_BOXES = 8000;
 
 /** Returns the colors of the page's statuses, edges, texts and marks, as they are now. */
 export function colorsOf(element) {
@@ -92,22 +94,30 @@ function paint(context, found, colors, isSmall) {
 }
 
 /**
- * Paints the boxes that views of one layout touch, each view at its place from the left. `wordOf` returns the word of a
- * vertex's status.
+ * Paints the boxes that views of one layout touch, each view at its place from the left, when the generator ends: in
+ * each turn it goes over the rows of so many boxes. `wordOf` returns the word of a vertex's status.
  */
-export function paintColumns(context, placed, columns, colors, wordOf) {
+export function* paintingColumns(context, placed, columns, colors, wordOf) {
   const found = new Rectangles();
+  let count = 0;
   for (const [left, view] of columns) {
-    found.left = left;
     const [first, last] = rowsIn(placed, view);
-    for (let row = first; row <= last; row += 1) addRow(found, placed, row, view, wordOf);
+    for (let row = first; row <= last; row += 1) {
+      found.left = left;
+      addRow(found, placed, row, view, wordOf);
+      count += placed.rows[row].length;
+      if (count >= MOST_BOXES) {
+        yield count;
+        count = 0;
+      }
+    }
   }
   paint(context, found, colors, BOX.height * columns[0][1].scaleY < 4);
 }
 
 /** Paints the boxes that a view touches. */
 export function paintBoxes(context, placed, view, colors, wordOf) {
-  paintColumns(context, placed, [[0, view]], colors, wordOf);
+  for (const turns = paintingColumns(context, placed, [[0, view]], colors, wordOf); !turns.next().done;);
 }
 
 /** Paints the labels of the boxes that a view touches, where they can be read. */

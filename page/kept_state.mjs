@@ -11,6 +11,11 @@ const MOST_IN_STORAGE = 4 << 20;
 const MOST_LINES = 5000;
 const PAUSE = 400;
 
+/** Returns whether a session with so many events, on a definition of so many bytes, can be kept. */
+export function canBeKept(events, bytes) {
+  return events <= MOST_LINES && bytes <= MOST_IN_STORAGE;
+}
+
 function store(fragment) {
   try {
     if (fragment) sessionStorage.setItem(NAME, fragment);
@@ -27,17 +32,22 @@ export class KeptState {
     this.count = 0;
   }
 
-  /** Keeps what `given` returns: a text of entries, local trees, workers and lines; null where nothing can be kept. */
+  /**
+   * Keeps what `given` returns a promise of: a text of entries, local trees, workers and lines; null, or a promise that
+   * is refused, where nothing can be kept.
+   */
   later(given) {
     clearTimeout(this.waits);
-    this.waits = setTimeout(() => this.keep(given()), PAUSE);
+    this.waits = setTimeout(() => this.keep(given().catch(() => null)), PAUSE);
   }
 
-  async keep(given) {
+  async keep(promise) {
     this.count += 1;
     const { count } = this;
+    const given = await promise;
+    if (count !== this.count) return;
     const size = given ? given.text.length + given.locals.reduce((sum, [, text]) => sum + text.length, 0) : 0;
-    const isKept = given && given.lines.length <= MOST_LINES && size <= MOST_IN_STORAGE;
+    const isKept = given && size <= MOST_IN_STORAGE;
     const fragment = isKept ? await packed(given) : '';
     if (count !== this.count) return;
     const isShort = fragment.length <= MOST_IN_ADDRESS;

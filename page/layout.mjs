@@ -31,7 +31,8 @@ function usersOf(vertices) {
 
 // Each layer is put in the order of the middles of what its vertices are joined with, down and up in turn.
 function ordered(layers, above, below) {
-  const place = [];
+  const place = new Float64Array(above.length);
+  const keys = new Float64Array(above.length);
   const put = (layer) => layer.forEach((vertex, i) => { place[vertex] = i - (layer.length - 1) / 2; });
   layers.forEach(put);
   const middle = (vertex, joined) => {
@@ -41,8 +42,8 @@ function ordered(layers, above, below) {
   for (let sweep = 0; sweep < SWEEPS; sweep += 1) {
     const isDown = sweep % 2 === 0;
     for (const layer of isDown ? layers : [...layers].reverse()) {
-      const keys = new Map(layer.map((vertex) => [vertex, middle(vertex, isDown ? above : below)]));
-      layer.sort((a, b) => keys.get(a) - keys.get(b) || a - b);
+      for (const vertex of layer) keys[vertex] = middle(vertex, isDown ? above : below);
+      layer.sort((a, b) => keys[a] - keys[b] || a - b);
       put(layer);
     }
   }

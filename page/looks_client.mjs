@@ -1,6 +1,12 @@
 /** The page's side of the worker that makes its looks. */
 
-import { digestsOfRows } from './definition.mjs';
+import { saidOf } from './definition.mjs';
+import { nextTurn } from './dom.mjs';
+
+// The lines of so many events are sent at once.
+const MOST_LINES = 5000;
+
+const textOf = (places) => places.map(({ event }) => event.line).join('\n');
 
 /** Sends calls to a worker, and returns promises of their answers. */
 export class Looker {
@@ -23,8 +29,8 @@ export class Looker {
     const isKept = Array.isArray(globalThis.llbmTranscript);
     // Whoever compares answers with those of `llbm step` needs those of the worker too.
     if (isKept) globalThis.llbmLooks = () => this.call('transcript');
-    const digests = digestsOfRows(machine, definition);
-    return this.call('open', { module: machine.module, definition, digests, locals, workers, isKept });
+    const said = saidOf(machine, definition);
+    return this.call('open', { module: machine.module, definition, said, locals, workers, isKept });
   }
 
   take({ id, value, fault }) {
@@ -49,11 +55,22 @@ export class Looker {
     });
   }
 
-  /** Returns a promise of what the event at the session's place did, and of whether the tree of a line is there. */
-  look(chosen) {
-    const { ways } = this.session;
+  /**
+   * Returns a promise of what the event at the session's place did, and of whether the tree of a line is there; null if
+   * another session was opened meanwhile. A long way there is sent in pieces, between which the page goes on.
+   */
+  async look(chosen) {
+    const { session } = this;
+    const { ways } = session;
     const { back, forth } = ways.route(ways.at, this.place);
     this.place = ways.at;
-    return this.call('look', back, forth.map(({ event }) => event.line).join('\n'), chosen);
+    let sent = 0;
+    for (; forth.length - sent > MOST_LINES; sent += MOST_LINES) {
+      const lines = textOf(forth.slice(sent, sent + MOST_LINES));
+      this.call('go', sent ? 0 : back, lines).catch(() => {});
+      await nextTurn();
+      if (this.session !== session) return null;
+    }
+    return this.call('look', sent ? 0 : back, textOf(forth.slice(sent)), chosen);
   }
 }

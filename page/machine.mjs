@@ -6,8 +6,12 @@
  */
 
 const PREFIX = 'llb_';
+const LINE = `${PREFIX}line`;
 const PROOF = 'llbm.proof';
 const HANDLE_BYTES = 16;
+// A place in the module's memory for a short line and its answer: most are short, and there are 200,000 in a long move.
+const SHORT_BYTES = 256;
+const MOST_ASCII = 127;
 
 /** The module stopped: its stack or its memory has ended. The answer of the call is not known. */
 export class Trap extends Error {
@@ -53,6 +57,23 @@ export class Machine {
 const encoder = new TextEncoder();
 const decoder = new TextDecoder();
 
+// Writes a short text of ASCII into bytes, and returns whether it is one.
+function putAscii(text, bytes) {
+  if (text.length > bytes.length) return false;
+  for (let i = 0; i < text.length; i += 1) {
+    const code = text.charCodeAt(i);
+    if (code > MOST_ASCII) return false;
+    bytes[i] = code;
+  }
+  return true;
+}
+
+// Returns the text of short bytes.
+function shortText(bytes) {
+  for (let i = 0; i < bytes.length; i += 1) if (bytes[i] > MOST_ASCII) return decoder.decode(bytes);
+  return String.fromCharCode.apply(null, bytes);
+}
+
 /** Returns bytes as they are, and the UTF-8 of a string. */
 export function bytesOf(given) {
   return typeof given === 'string' ? encoder.encode(given) : given;
@@ -65,6 +86,8 @@ export class Handle {
     this.trapped = null;
     this.at = this.guarded(() => exports.page_alloc(BigInt(HANDLE_BYTES)));
     this.view(this.at, HANDLE_BYTES).fill(0);
+    this.short = this.guarded(() => this.placeOf(SHORT_BYTES));
+    this.shortView = this.view(this.short, SHORT_BYTES);
   }
 
   // A view is made anew for each use, since a call can move the memory when it grows.
@@ -83,11 +106,22 @@ export class Handle {
     }
   }
 
+  placeOf(length) {
+    const at = this.exports.page_alloc(BigInt(length || 1));
+    if (!at) throw new RangeError('no memory is left for an argument or an answer');
+    return at;
+  }
+
   place(bytes) {
-    const at = this.exports.page_alloc(BigInt(bytes.length || 1));
-    if (!at) throw new RangeError('no memory is left for an argument');
+    const at = this.placeOf(bytes.length);
     this.view(at, bytes.length).set(bytes);
     return at;
+  }
+
+  // The bytes of the place for short lines and answers.
+  shortBytes() {
+    if (this.shortView.buffer !== this.exports.memory.buffer) this.shortView = this.view(this.short, SHORT_BYTES);
+    return this.shortView;
   }
 
   call(name, parts, ...more) {
@@ -101,17 +135,17 @@ export class Handle {
     });
   }
 
-  written(name) {
+  // Calls `take` with the bytes that a call wrote, which are only there until the next call.
+  written(name, takeShort, takeLong) {
     return this.guarded(() => {
       const call = this.exports[PREFIX + name];
-      const length = call(this.at, this.at, 0n);
-      if (!length) return new Uint8Array(0);
-      const at = this.exports.page_alloc(length);
-      if (!at) throw new RangeError('no memory is left for an answer');
-      call(this.at, at, length);
-      const copy = this.view(at, length).slice();
+      const length = Number(call(this.at, this.short, BigInt(SHORT_BYTES)));
+      if (length <= SHORT_BYTES) return takeShort(this.shortBytes().subarray(0, length));
+      const at = this.placeOf(length);
+      call(this.at, at, BigInt(length));
+      const taken = takeLong(this.view(at, length));
       this.exports.page_free(at);
-      return copy;
+      return taken;
     });
   }
 
@@ -127,7 +161,10 @@ export class Handle {
 
   /** Sends a line to the session, and returns the status. */
   line(line) {
-    return this.call('line', [line]);
+    return this.guarded(() => {
+      if (!putAscii(line, this.shortBytes())) return this.call('line', [line]);
+      return this.exports[LINE](this.at, this.short, BigInt(line.length));
+    });
   }
 
   /** Writes the graph of a definition, and returns the status. */
@@ -177,17 +214,17 @@ export class Handle {
 
   /** Returns the bytes that the last call wrote. */
   output() {
-    return this.written('output');
+    return this.written('output', (bytes) => bytes.slice(), (bytes) => bytes.slice());
   }
 
   /** Returns the text that the last call wrote. */
   text() {
-    return decoder.decode(this.output());
+    return this.written('output', shortText, (bytes) => decoder.decode(bytes));
   }
 
   /** Returns the messages of the last call, such as the line of a fault. */
   messages() {
-    return decoder.decode(this.written('messages'));
+    return this.written('messages', shortText, (bytes) => decoder.decode(bytes));
   }
 
   /** Returns how many bytes of memory the instance has. */

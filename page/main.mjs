@@ -2,19 +2,20 @@
 
 import { ChangesView } from './changes_view.mjs';
 import { DefinitionView } from './definition_view.mjs';
-import { by, make, oncePerFrame } from './dom.mjs';
+import { by, make, nextTurn, oncePerFrame } from './dom.mjs';
 import { explained } from './faults.mjs';
 import { whyIdle } from './idle_workers.mjs';
 import { foreignOf, foreignStatuses } from './foreign.mjs';
 import { showForeign } from './foreign_view.mjs';
 import { GraphView } from './graph_view.mjs';
-import { KeptState } from './kept_state.mjs';
+import { canBeKept, KeptState } from './kept_state.mjs';
 import { listen } from './keyboard.mjs';
 import { openLink } from './links.mjs';
 import { Looker } from './looks_client.mjs';
 import { Machine } from './machine.mjs';
 import { VertexNotes } from './notes.mjs';
 import { OpenView } from './open_view.mjs';
+import { textOf } from './reading.mjs';
 import { refusalOf, Session } from './session.mjs';
 import { OrdersView } from './orders_view.mjs';
 import { SearchView } from './search_view.mjs';
@@ -25,7 +26,9 @@ import { TimeView } from './time_view.mjs';
 import { foreignDetails, notesElement, vertexDetails } from './vertex_details.mjs';
 
 const MODULE = 'llbm.wasm';
-// The page goes on for so many milliseconds at once: then it shows how far it is, and what a person does is looked at.
+// The page goes on for so many events at once, or for so many milliseconds: then it shows how far it is, and what a
+// person does is looked at.
+const MOST_EVENTS = 500;
 const SLICE = 25;
 const NO_BREAKS = { claim: new Set(), settle: new Set() };
 
@@ -91,12 +94,12 @@ class Page {
     this.update();
   }
 
-  // What a link of the session carries, or null for a build of a server, which has a link of its own.
-  carried() {
-    if (!this.session || this.given.name) return null;
-    if (!this.given.written) this.given.text ??= this.openView.textOf(this.given.definition);
-    const { text, written, locals, workers } = this.given;
-    return { text: written ?? text, locals, workers, lines: this.session.commands() };
+  // A promise of what a link of the session carries. Its text is that of the machine, or what a person wrote.
+  async carried(isWritten) {
+    const { definition, written, locals, workers } = this.given;
+    const lines = this.session.commands();
+    const text = isWritten && written ? written : await textOf(this.machine, definition);
+    return { text, locals, workers, lines };
   }
 
   // Opens what was written beside the graph, with the trees and as far along the record as before.
@@ -112,8 +115,12 @@ class Page {
     this.update();
   }
 
+  // A build of a server has a link of its own.
   keepLater() {
-    if (this.session && !this.given.name) this.kept.later(() => this.guarded(() => this.carried()));
+    const { session } = this;
+    if (!session || this.given.name) return;
+    const isKept = () => this.session === session && canBeKept(session.ways.at.number, this.given.definition.length);
+    this.kept.later(async () => (isKept() ? this.carried(true) : null));
   }
 
   /** Opens a build of the page's server: at the beginning of its record, which *Next* follows. */
@@ -208,7 +215,10 @@ class Page {
     const turn = () => {
       const end = performance.now() + SLICE;
       let one = moves.next();
-      while (!one.done && performance.now() < end) one = moves.next();
+      let count = 1;
+      for (; !one.done && count < MOST_EVENTS && performance.now() < end; count += 1) one = moves.next();
+      // Whoever wants to know how many events each slice has sets this list.
+      globalThis.llbmSlices?.push(count);
       return one;
     };
     const first = turn();
@@ -219,7 +229,7 @@ class Page {
     for (;;) {
       by('stop').hidden = false;
       this.time.progress();
-      await new Promise((done) => { setTimeout(done); });
+      await nextTurn();
       if (this.isStopped || this.session !== session) return null;
       const one = turn();
       if (one.done) return one;
@@ -403,9 +413,7 @@ class Page {
 
   async showShare() {
     if (!this.session) return;
-    this.given.text ??= this.openView.textOf(this.given.definition);
-    const { text, locals, workers } = this.given;
-    await this.share.update({ text, locals, workers, lines: this.session.commands() });
+    await this.share.update(await this.carried(false));
     by('share-view').showModal();
   }
 

@@ -5,12 +5,13 @@ import { isText, rowInWords } from './definition.mjs';
 import { by, make } from './dom.mjs';
 import { explained } from './faults.mjs';
 import { definitionOf, treeOfFile } from './reading.mjs';
-import { assembled, disassembled, refusalOf } from './session.mjs';
+import { assembled, refusalOf } from './session.mjs';
 import { treeOfFiles } from './sources.mjs';
 
 const EMPTY = 'd 0755 0 0 /\n';
 const MOST_SHOWN = 200000;
 const MOST_LEFT_OUT = 3;
+const NO_DEFINITION = 'Give a definition first.';
 
 /**
  * The view by which a definition is opened. `onOpen` is called with a definition, trees and workers, `onForeign` with a
@@ -191,9 +192,9 @@ export class OpenView {
   }
 
   async showWhatIsRead() {
-    if (!this.given && by('definition').value.trim() === '') {
+    if (this.isEmpty) {
       this.made = null;
-      this.showRead('', [], 'Give a definition first.');
+      this.showRead('', [], NO_DEFINITION);
       return;
     }
     const read = this.read();
@@ -269,9 +270,15 @@ export class OpenView {
     return names.filter((name) => this.trees.has(name)).map((name) => [name, this.trees.get(name).text]);
   }
 
+  // Whether there is no definition, neither in the field nor of a file.
+  get isEmpty() {
+    return !this.given && by('definition').value.trim() === '';
+  }
+
   /** Opens what the view has, or shows why that is refused. */
   async submit() {
     try {
+      if (this.isEmpty) throw new Error(NO_DEFINITION);
       const { definition, names } = await this.read();
       if (canBeDrawn(refusalOf(this.machine, definition))) this.onForeign(definition);
       else {
@@ -296,11 +303,6 @@ export class OpenView {
     by('open-said').replaceChildren(line, ...(why ? [make('p', { text: why })] : []));
     const faulty = /^fault 16[12] ([0-9]+)/.exec(fault.message);
     if (faulty) selectLine(by('definition'), Number(faulty[1]));
-  }
-
-  /** Returns the text of the entries of a definition. */
-  textOf(definition) {
-    return disassembled(this.machine, definition);
   }
 }
 

@@ -1,7 +1,7 @@
 /** The overview of a graph: all of it, small, with the part that is seen. A press or a drag moves the window there. */
 
-import { by } from './dom.mjs';
-import { paintColumns, viewOf } from './graph_paint.mjs';
+import { by, inTurns } from './dom.mjs';
+import { paintingColumns, viewOf } from './graph_paint.mjs';
 
 const SIDE = { width: 170, height: 120, least: 28 };
 // It is painted again at most so often, in milliseconds, since 65,535 vertices can change at each step.
@@ -43,24 +43,31 @@ export class Overview {
     return { x: (offsetX - column * this.wide) / this.scale.x, y: column * this.part + offsetY / this.scale.y };
   }
 
-  /** Paints the statuses, a little later: the last ones that were given win. */
+  /** Paints the statuses, a little later and in turns: the last ones that were given win. */
   later(colors, wordOf, seen) {
-    this.last = () => this.paint(colors, wordOf, seen());
-    this.waits ??= setTimeout(() => {
-      this.waits = null;
-      this.last();
-    }, PAUSE);
+    this.asked = () => this.paint(colors, wordOf, seen);
+    this.waits ??= setTimeout(() => this.paintAsked(), PAUSE);
   }
 
-  paint(colors, wordOf, seen) {
-    const context = this.picture.getContext('2d');
+  async paintAsked() {
+    const { asked } = this;
+    this.asked = null;
+    await asked();
+    this.waits = this.asked ? setTimeout(() => this.paintAsked(), PAUSE) : null;
+  }
+
+  async paint(colors, wordOf, seen) {
+    const { placed } = this;
     const { width, height } = this.picture;
-    context.clearRect(0, 0, width, height);
+    const picture = Object.assign(document.createElement('canvas'), { width, height });
     const size = { width: this.wide, height };
     const found = this.columns.map((column) => (
       [column * this.wide, viewOf({ left: 0, top: column * this.part }, size, this.scale.x, this.scale.y)]));
-    paintColumns(context, this.placed, found, colors, wordOf);
-    this.mark(seen, colors);
+    const painting = paintingColumns(picture.getContext('2d'), placed, found, colors, wordOf);
+    await inTurns(painting, () => this.placed === placed);
+    if (this.placed !== placed) return;
+    this.picture = picture;
+    this.mark(seen(), colors);
   }
 
   // Returns whether the window is too small for an overview.

@@ -1,6 +1,10 @@
 /** Reading of what a person gives, by workers: files for a local source, and definitions. */
 
-import { keepRead } from './session.mjs';
+import { disassembled, keepRead } from './session.mjs';
+
+// The text of a definition of so many bytes is made at once, and that of a larger one by a worker.
+const MOST_AT_ONCE = 50000;
+const texts = new WeakMap();
 
 // Returns a promise of the one answer of a worker to what it is given.
 async function answerOf(worker, given, moved = []) {
@@ -31,7 +35,18 @@ export async function treeOfFile(file) {
 export async function definitionOf(machine, bytes, isWritten) {
   const given = { module: machine.module, bytes, isWritten };
   const worker = new Worker('definition_worker.mjs', { type: 'module' });
-  const { definition, names, ...said } = await answerOf(worker, given);
-  keepRead(definition, said);
+  const { definition, names, ...read } = await answerOf(worker, given);
+  keepRead(definition, read);
   return { definition, names };
+}
+
+/** Returns a promise of the text of the entries of a definition, which is kept with its bytes. */
+export function textOf(machine, definition) {
+  const made = async () => {
+    if (definition.length <= MOST_AT_ONCE) return disassembled(machine, definition);
+    const given = { module: machine.module, bytes: definition, isText: true };
+    return (await answerOf(new Worker('definition_worker.mjs', { type: 'module' }), given)).text;
+  };
+  if (!texts.has(definition)) texts.set(definition, made());
+  return texts.get(definition);
 }

@@ -22,8 +22,11 @@ export class PathIndex {
     if (!event) return false;
     const { vertex } = this.session.ways.at.event;
     const changes = new Map();
-    for (const part of changesOf(this.session, this.entries[vertex]).compared) {
-      for (const { path, kind } of part.changes) if (!changes.has(path)) changes.set(path, kind);
+    for (const { name, changes: changed } of changesOf(this.session, this.entries[vertex]).compared) {
+      for (const { path, kind } of changed) {
+        if (!changes.has(path)) changes.set(path, { kind, names: [] });
+        changes.get(path).names.push(name);
+      }
     }
     this.found.push({ event: this.session.ways.at.event, changes });
     return true;
@@ -41,8 +44,8 @@ export class PathIndex {
     }
   }
 
-  /** Returns the last of these events that changed a path, of those of some vertices, or null. */
-  async lastChange(events, path, vertices) {
+  /** Returns the last of these events that changed a path in a tree of which `isMaker` is true, or null. */
+  async lastChange(events, path, isMaker) {
     let since = performance.now();
     for (const event of events) {
       this.step(event);
@@ -51,9 +54,9 @@ export class PathIndex {
         since = performance.now();
       }
     }
-    const isOne = ({ event, changes }) => vertices.has(event.vertex) && changes.has(path);
+    const isOne = ({ event, changes }) => changes.get(path)?.names.some((name) => isMaker(event, name));
     const found = this.found.findLast(isOne);
-    return found ? { event: found.event, kind: found.changes.get(path) } : null;
+    return found ? { event: found.event, kind: found.changes.get(path).kind } : null;
   }
 
   /** Returns the events that changed paths with a text in them, and how many changes are left out. */
@@ -62,7 +65,7 @@ export class PathIndex {
     const found = [];
     let more = 0;
     for (const { event, changes } of this.found) {
-      for (const [path, kind] of changes) {
+      for (const [path, { kind }] of changes) {
         if (!path.includes(text)) continue;
         if (found.length < MOST_FOUND) found.push({ event, path, kind });
         else more += 1;

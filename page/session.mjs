@@ -4,15 +4,13 @@
  * docs/FORMATS.md, "A stepping session", has the lines that a session takes and what it answers.
  */
 
-import { digestsOfRows, keepDigests, localsOf, verticesOf } from './definition.mjs';
+import { keepSaid, localsOf, saidOf, verticesOf } from './definition.mjs';
 import { diceOf, shuffled } from './seeded_order.mjs';
 import { STATUS } from './machine.mjs';
 import { eventOf, graphOf } from './record.mjs';
 import { Statuses } from './statuses.mjs';
 import { linesOf } from './tree_text.mjs';
 import { Ways } from './event_tree.mjs';
-
-const decoder = new TextDecoder();
 
 /** What is before the name of a local source in the line for its tree, which the page has and no line of a session. */
 export const GIVEN = 'given ';
@@ -69,13 +67,13 @@ export function readDefinition(machine, bytes, isWritten) {
   const definition = isWritten ? assembled(machine, bytes) : bytes;
   const { text, fault } = plannedBy(machine, definition);
   const vertices = verticesOf(machine, definition, digestsIn(linesOf(text)));
-  return { definition, fault, names: localsOf(vertices), digests: digestsOfRows(machine, definition) };
+  return { definition, fault, names: localsOf(vertices), said: saidOf(machine, definition) };
 }
 
-/** Keeps what a machine said of a definition: the digests of its entries, and the fault for which it is refused. */
-export function keepRead(definition, { fault, digests }) {
+/** Keeps what a machine said of a definition: of its entries, and the fault for which it is refused. */
+export function keepRead(definition, { fault, said }) {
   planned.set(definition, { text: '', fault });
-  keepDigests(definition, digests);
+  keepSaid(definition, said);
 }
 
 /** Returns the line of the fault for which the machine refuses a definition; empty if it takes it. */
@@ -107,19 +105,19 @@ export class Session {
     this.breaks = { claim: new Set(), settle: new Set(), fail: false };
   }
 
-  /** Returns the bytes that the machine answers to a line. */
-  bytes(line) {
+  /** Returns the text that the machine answers to a line. */
+  text(line) {
     const status = this.handle.line(line);
-    const answer = this.handle.output();
+    const answer = this.handle.text();
     // Whoever wants to compare answers with those of `llbm step` sets this list.
-    if (this.isKept) globalThis.llbmTranscript?.push([line, decoder.decode(answer)]);
+    if (this.isKept) globalThis.llbmTranscript?.push([line, answer]);
     if (status === STATUS.failed) throw new Refused('no memory', 'the line');
     return answer;
   }
 
   /** Returns the lines that the machine answers to a line. */
   lines(line) {
-    return linesOf(decoder.decode(this.bytes(line)));
+    return linesOf(this.text(line));
   }
 
   /**
@@ -129,25 +127,23 @@ export class Session {
   tree(line) {
     if (line.startsWith(GIVEN)) return this.locals.get(line.slice(GIVEN.length)) ?? null;
     if (line.startsWith(BEFORE)) return this.before(() => this.tree(line.slice(BEFORE.length)));
-    const text = decoder.decode(this.bytes(line));
+    const text = this.text(line);
     return text === 'none\n' || text.startsWith('fault ') ? null : text;
   }
 
   /** Returns the statuses of the vertices. */
   statuses() {
-    return new Statuses(decoder.decode(this.bytes('status')));
+    return new Statuses(this.text('status'));
   }
 
-  // Adds the events of an answer to the way.
+  // Adds the events of an answer to the way. A step is of the vertex that its worker claimed last.
   took(lines) {
     const events = lines.map(eventOf).filter(Boolean);
-    events.forEach((event) => this.ways.add(this.placed(event)));
+    for (const event of events) {
+      event.vertex ??= this.ways.at.claims.get(event.worker);
+      this.ways.add(event);
+    }
     return events;
-  }
-
-  // A step is of the vertex that its worker claimed last.
-  placed(event) {
-    return event.vertex === null ? { ...event, vertex: this.ways.at.claims.get(event.worker) } : event;
   }
 
   /** Does the event of a line such as `next` or `claim 0 1`; returns the event, or null where it is refused. */

@@ -5,7 +5,7 @@
 
 import { causeOf, makersOf } from './causes.mjs';
 import { changesInWords, changesOf, wordsOf } from './changes.mjs';
-import { keepDigests } from './definition.mjs';
+import { keepSaid } from './definition.mjs';
 import { pictureType, rowsOf } from './differences.mjs';
 import { FolderIndex } from './folder_index.mjs';
 import { allTrees, holdersOf, keysOf } from './looks.mjs';
@@ -42,8 +42,8 @@ function shown({ name, line, changes }) {
 
 /** A session for looks, and what it showed last. */
 export class Looks {
-  constructor(machine, { definition, digests, locals, workers, isKept }) {
-    keepDigests(definition, digests);
+  constructor(machine, { definition, said, locals, workers, isKept }) {
+    keepSaid(definition, said);
     this.given = [machine, definition, locals, workers];
     if (isKept) globalThis.llbmTranscript = [];
     this.session = new Session(...this.given);

@@ -1,7 +1,9 @@
 /**
  * The way that a session is on, with bars from each claim to its end, and the holds of each cache. It grows by an event
- * at a time, since a way can have 200,000 events.
+ * at a time, and by so many in each turn of a generator, since a way can have 200,000 events.
  */
+
+export const MOST_AT_ONCE = 2000;
 
 // How many bars begin at or before a place, by halving.
 function begunBy(bars, last) {
@@ -30,20 +32,19 @@ export class Track {
     this.workers = new Set();
   }
 
-  /** Follows the way to a place: by the events after those that are known, or anew if it is another way. */
-  follow(ways, end) {
-    const last = this.path.at(-1);
-    const more = [];
-    let one = end;
-    while (last && one !== last && one.number > last.number) {
-      more.push(one);
-      one = one.before;
+  /**
+   * Follows the way to a place: by the events after those that are known, or anew if it is another way. It is complete
+   * when the generator ends.
+   */
+  * following(ways, end) {
+    const known = this.path.at(-1);
+    const isFurther = known && ways.meet(known, end) === known;
+    if (!isFurther) this.begin();
+    const more = ways.between(end, end.number - (isFurther ? known.number : -1));
+    for (let i = 0; i < more.length; i += 1) {
+      this.add(more[i]);
+      if ((i + 1) % MOST_AT_ONCE === 0) yield;
     }
-    if (one !== last) {
-      this.begin();
-      for (const place of ways.path(one)) this.add(place);
-    }
-    for (const place of more.reverse()) this.add(place);
   }
 
   add(place) {

@@ -4,7 +4,7 @@
  * inside the window are in the page.
  */
 
-import { by, draw, oncePerFrame } from './dom.mjs';
+import { by, draw, inTurns, oncePerFrame } from './dom.mjs';
 import { isFailure, isFault, wordsOf } from './record.mjs';
 import { Track } from './time_track.mjs';
 
@@ -42,15 +42,18 @@ export class TimeView {
   open(session, entries) {
     this.session = session;
     this.track = new Track(entries);
+    this.rows = [];
+    this.end = session.ways.root;
     this.frame.scrollTo(0, 0);
     this.update();
   }
 
-  /** Shows the place where the session is. */
+  /** Shows the place where the session is. What is long is followed in turns, and drawn when it is there. */
   update() {
     const { ways } = this.session;
     this.end = ways.end();
-    this.track.follow(ways, this.end);
+    const following = this.track.following(ways, this.end);
+    this.following = following.next().done ? null : following;
     this.slider.max = this.end.number;
     this.slider.value = ways.at.number;
     const { event } = ways.at;
@@ -60,6 +63,14 @@ export class TimeView {
     this.rows = this.rowsOf();
     this.reveal();
     this.render();
+    if (this.following) this.followFurther(following);
+  }
+
+  async followFurther(following) {
+    await inTurns(following, () => this.following === following);
+    if (this.following !== following) return;
+    this.following = null;
+    this.refresh();
   }
 
   /** Shows how far the session is while it goes on: only what costs little. */
@@ -68,29 +79,27 @@ export class TimeView {
     this.slider.max = Math.max(Number(this.slider.max), ways.at.number);
     this.slider.value = ways.at.number;
     by('place').textContent = `event ${ways.at.number.toLocaleString('en')} …`;
+    if (!this.following && ways.at.number > this.end.number) this.track.following(ways, ways.at).next();
   }
 
   slid() {
-    this.onPlace(this.track.path[Number(this.slider.value)]);
+    const number = Number(this.slider.value);
+    this.onPlace(this.track.path[number] ?? this.session.ways.between(this.end, this.end.number - number + 1)[0]);
   }
 
   get lanes() {
     return this.track.lanes;
   }
 
-  // A row for each worker, and below a row for each other way.
+  // A row for each way that has places beside that of the session. They are found again only where one has more.
   rowsOf() {
-    if (this.session.ways.count === 1) return [];
-    const { path } = this.track;
-    const own = new Set(path.map((place) => place.way));
-    const others = this.session.ways.branches().filter(({ way, places }) => places.length && !own.has(way));
-    const used = this.session.ways.branches().filter(({ way }) => own.has(way));
-    const onPath = new Set(path);
-    for (const { way, places } of used) {
-      const left = places.filter((place) => !onPath.has(place));
-      if (left.length) others.push({ way, places: left, from: left[0].before });
-    }
-    return others.sort((a, b) => a.way - b.way);
+    const { ways } = this.session;
+    return ways.beside(this.end).map(({ way, last, count }) => {
+      const old = this.rows.find((row) => row.way === way && row.places.at(-1) === last && row.places.length === count);
+      if (old) return old;
+      const places = ways.between(last, count);
+      return { way, places, from: places[0].before };
+    });
   }
 
   x(number) {
@@ -179,7 +188,8 @@ export class TimeView {
     const y = this.below(row);
     const x = this.x(from.number);
     const top = from.event ? this.y(from.event.worker) : TOP;
-    const seen = places.filter(({ number }) => number >= first && number <= last);
+    const begin = places[0].number;
+    const seen = places.slice(Math.max(0, first - begin), Math.max(0, last + 1 - begin));
     return [
       draw('path', { class: 'fork', d: `M${x} ${top}V${y}H${this.x(places.at(-1).number)}` }),
       ...seen.map((place) => {

@@ -150,6 +150,9 @@ class Solving(WithFolder):
         with mock.patch.dict(os.environ, {"LIBLLBM": "/none.so"}):
             if os.environ.get(testing.PROGRAM):
                 solve(definition, Files("src", {"b.txt": "b"})).file("/b.txt").equals("b")
+            with mock.patch.dict(os.environ, {testing.PROGRAM: "/none"}):
+                with self.assertRaisesRegex(AssertionError, "LLBM names no program that starts: .*'/none'"):
+                    solve(definition, Files("src", {}))
             with mock.patch.dict(os.environ):
                 os.environ.pop(testing.PROGRAM, None)
                 with self.assertRaisesRegex(unittest.SkipTest, "there is nothing to solve it with: .*LLBM names no"):

@@ -181,7 +181,8 @@ class Table(base.WithProgram):
         os.chmod(self.folder, 0o755)
         before = ["-c", AS_NOBODY] if IS_ROOT else []
         for tool, *words in [
-            ("build", "--llbm", self.llbm, FIRST, b"%b/out" % above), ("adopt", "--all", FIRST, "-o", b"%b/out" % above),
+            ("build", "--llbm", self.llbm, FIRST, b"%b/out" % above),
+            ("adopt", "--all", FIRST, "-o", b"%b/out" % above),
         ]:
             done = run(tool, *words, before=before)
             self.check_refused(done, 2, [tool])

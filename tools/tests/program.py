@@ -7,7 +7,7 @@ import re
 import resource
 import subprocess
 
-from llbm_tools.definitions import faults
+from llbm_tools.definitions import faults, next_commands
 from llbm_tools.fuzzing import limited_runs
 from tests import base
 from tests.base import ROOT, run
@@ -147,7 +147,7 @@ class WithProgram(base.WithProgram):
     def test_refusals_are_explained(self):
         nameless = base.ending(base.file_op())
         for given, words, line in [
-            (b"\x0a", [], "fault 81 1"), (b"", [], "fault 83"), (nameless, [], "fault 89 0 NoActions"),
+            (nameless, [], "fault 89 0 NoActions"),
             (base.ending(base.source("local://src")), [], "fault 121 src"),
             (base.ending(base.source("docker-image://a")), [], "fault 88 0 Source"),
             (base.ending(base.exec_op("apk")), [], "fault 89 0 Script 71 apk"),
@@ -161,7 +161,11 @@ class WithProgram(base.WithProgram):
             refused = [text.partition(": ")[0] for text in explained.stderr.decode().splitlines()]
             meaning += [f"  the definition: {cause}" for cause in refused]
             meaning += ["  without a tree: src (vertex 0)"] * (line == "fault 121 src")
+            meaning += [f"  {next_commands.hint_of(line)}"] * line.startswith(("fault 88 ", "fault 89 "))
             self.assertEqual(done.stderr.decode().splitlines()[1:], [line, *meaning, "nothing is written"])
+        for given, cause in [(b"\x0a", b"the bytes end inside a record"), (b"", b"there are no bytes")]:
+            line = b"not a definition: " + cause + b": " + self.place(b"definition") + b"\n"
+            self.check_run(self.build(given), 2, b"", line)
 
     def source_name(self, text):
         """Returns the name of the local source that a file of the examples is the tree of."""
@@ -244,9 +248,11 @@ class WithProgram(base.WithProgram):
 
     def test_each_command_line_is_accepted(self):
         place = EXAMPLES / "first-run.definition"
-        settled = {"N": "2", "FILE": str(place), "OLD": str(place), "NAME=FILE ...": f"a={EXAMPLES / 'tour.tree'}"}
+        tree = str(EXAMPLES / "tour.tree")
+        settled = {"N": "2", "FILE": str(place), "OLD": str(place), "NEW": tree, "NAME=FILE ...": f"a={tree}"}
+        settled |= {"NAME=OLD": f"a={tree}", "NAME=OLD ...": f"b={tree}"}
         for line in COMMAND_LINES:
-            words = re.findall(r"NAME=FILE \.\.\.|[^ \[\]]+", line)
+            words = re.findall(r"NAME=(?:FILE|OLD) \.\.\.|[^ \[\]]+", line)
             for first in words[0].split("|"):
                 given = [settled.get(word, word) for word in [first, *words[1:]]]
                 text = (EXAMPLES / "first-run.text").read_bytes() if first == "asm" else place.read_bytes()

@@ -164,7 +164,10 @@ class _Solving:
     def _run_by(self, program: str | None, fault: OSError) -> str:
         if not program:
             _skip(f"there is nothing to solve it with: {fault}, and {PROGRAM} names no program llbm")
-        done = _called([program, "run", *self.given()], self.definition)
+        try:
+            done = _called([program, "run", *self.given()], self.definition)
+        except OSError as why:
+            raise AssertionError(f"{PROGRAM} names no program that starts: {why}") from None
         if done.returncode:
             raise Fault(done.returncode, done.stderr.decode("utf-8", "replace"))
         return done.stdout.decode()

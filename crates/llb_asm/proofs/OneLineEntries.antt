@@ -233,8 +233,8 @@ entry_are labels entry (structured op has) few are is =
     )
 entry_are labels entry raw few are is = (item_is (codes "raw") (hex_text entry) refl (bytes_solid entry are), tt)
 
-lines_are : (labels : List (List ℕ)) (xs : List Formed) → length labels + length xs ≤ 2 ^ 64 → AllByRecursion AreBytes (map (λ x. x.0) xs) → HaveForms HasForm xs
-    → AreContents (plain_lines labels xs)
+lines_are : (labels : List (List ℕ)) (xs : List Formed) → length labels + length xs ≤ 2 ^ 64 → AllByRecursion AreBytes (map (λ x. x.0) xs)
+    → HaveForms HasForm xs → AreContents (plain_lines labels xs)
 lines_are labels [] few are have = tt
 lines_are labels (x ∷ xs) few are have =
     joined (entry_lines labels x.0 x.1) (plain_lines (labels ++ digest_text x.0 ∷ []) xs) (entry_are labels x.0 x.1 (omega arith) are.0 have.0)

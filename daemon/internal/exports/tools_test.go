@@ -166,7 +166,7 @@ var configurations = []string{
 	`{}`,
 	`{"config": {"Env": ["PATH=/bin", "A=<&>\u2028é\u0001\t"], "Cmd": ["/a"], "Labels": null, "Volumes": {}}, "author": null}`,
 	`{"architecture": "arm64", "os": "linux", "variant": "v8", "created": "2001-01-01T00:00:00.5Z", "rootfs": null}`,
-	`{"architecture": "arm", "os": "linux", "history": [], "config": {"Healthcheck": {"Interval": 30000000000, "x": [1, -1, 12345678901234567890123]}}}`,
+	`{"architecture": "arm", "os": "linux", "history": [], "config": {"Healthcheck": {"Interval": 30000000000, "a.x": [1, -1, 12345678901234567890123]}}}`,
 	`{"created": "2030-01-01T00:00:00Z", "history": [{"created_by": "COPY"}, {"created_by": "ENV", "empty_layer": true, "comment": null}]}`,
 	`{"history": [{"created": "2002-02-02T02:02:02+02:00", "created_by": "COPY"}, {"created_by": "COPY b"}, {"empty_layer": false}]}`,
 	`{"history": [{"created": "2040-02-02T02:02:02Z", "empty_layer": true}], "created": null, "config": null}`,

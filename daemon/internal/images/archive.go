@@ -39,7 +39,7 @@ func Archive(ctx context.Context, store *contents.Store, from io.Reader, options
 	if err != nil {
 		return nil, nil, err
 	}
-	a := &addition{directories: map[string]bool{}, late: map[*node]bool{}}
+	a := &addition{directories: map[string]bool{}, late: map[*node]bool{}, made: map[*node]int{}}
 	a.begin()
 	u := &unpacker{ctx: ctx, pack: pack, put: a.put, options: options, left: mostUnpacked}
 	manifest, err := sources.Collect(pack, options, func(add sources.Add) error {
@@ -82,6 +82,7 @@ type addition struct {
 	parts       []*node
 	directories map[string]bool // the paths of directories that have entries
 	late        map[*node]bool  // the directories whose entries came after others in them
+	made        map[*node]int   // the directories without entries, by their order
 	folders     []Folder
 }
 
@@ -125,7 +126,7 @@ func (a *addition) put(i *item) error {
 // putInto does an entry in a part, unless it has to be in one after it.
 func (a *addition) putInto(part *node, names []string, i *item) (bool, error) {
 	last := len(names) - 1
-	at, err := directory(part, names[:last])
+	at, err := a.directory(part, names[:last])
 	if at == nil || err != nil {
 		return false, err
 	}
@@ -161,13 +162,13 @@ func (n *node) handsDown(i *item) bool {
 }
 
 // directory returns a directory of a part, which is made if there is none; nil if a symbolic link leads to it.
-func directory(at *node, names []string) (*node, error) {
+func (a *addition) directory(at *node, names []string) (*node, error) {
 	for count, name := range names {
 		next := at.below[name]
 		switch {
 		case next == nil:
 			next = &node{below: map[string]*node{}}
-			at.below[name] = next
+			at.below[name], a.made[next] = next, len(a.made)
 		case next.below == nil && next.item.is(tar.TypeSymlink):
 			return nil, nil
 		case next.below == nil:
@@ -301,6 +302,7 @@ func (a *addition) folder(of step, first map[*item]string, add sources.Add) (fur
 	}
 	err = below("", of.node)
 	a.folders = append(a.folders, folder)
+	slices.SortFunc(further, func(one, other step) int { return a.made[one.node] - a.made[other.node] }) // links may lead from one to another
 	return further, err
 }
 

@@ -285,6 +285,12 @@ func TestAnArchiveIsUnpackedIntoWhatIsThere(t *testing.T) {
 		"through an absolute link": {
 			"/g", []tar.Header{file("absolute/n")}, links + "2775 0:9 g/s/ \"\"\n" + f + x + "0600 0:0 g/x/n \"absolute/n\"\n" + outside,
 		},
+		"through a link and beside it": {
+			"/g", []tar.Header{file("x/n"), file("absolute/n")}, links + "2775 0:9 g/s/ \"\"\n" + f + x + "0600 0:0 g/x/n \"absolute/n\"\n" + outside,
+		},
+		"beside a link and through it": {
+			"/g", []tar.Header{file("absolute/n"), file("x/n")}, links + "2775 0:9 g/s/ \"\"\n" + f + x + "0600 0:0 g/x/n \"x/n\"\n" + outside,
+		},
 		"through a link that leads above": {
 			"/g", []tar.Header{file("above/n")}, links + "2775 0:9 g/s/ \"\"\n" + f + x + "0600 0:0 g/x/n \"above/n\"\n" + outside,
 		},

@@ -4,7 +4,7 @@ import contextlib
 import pathlib
 
 from llbm_tools.common import say
-from llbm_tools.definitions import faults
+from llbm_tools.definitions import faults, next_commands
 from llbm_tools.llb import source_names
 from llbm_tools.running.failure_reasons import Reasons
 
@@ -32,6 +32,8 @@ class Messages:
                 self.explainer = faults.Explainer(faults.read_page(), self.definition, lambda: self.program)
             for meaning in self.explainer.lines(text):
                 say(f"  {meaning}")
+        if hint := next_commands.hint_of(text):
+            say(f"  {hint}")
         if text.startswith(UNNAMED):
             for note in source_names.missing_notes(pathlib.Path(self.definition).read_bytes(), self.names):
                 say(f"  {note}")

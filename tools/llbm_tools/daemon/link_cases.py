@@ -7,6 +7,7 @@ from typing import NamedTuple
 from llbm_tools.daemon.runs import hard_link_to, link_to
 from llbm_tools.llb import messages
 from llbm_tools.llb.messages import Message, made
+from llbm_tools.trees import tree_maps
 from llbm_tools.trees.tree_maps import ROOT, Entry, Tree
 
 SCRATCH, SOURCE = -1, 0
@@ -32,15 +33,12 @@ LINKS = {
 def tree() -> Tree:
     """Returns the tree of the source."""
     found: Tree = {(): ROOT}
-    entries = {path: Entry(0o640, 0, 0, text.encode().hex().encode()) for path, text in FILES.items()}
+    entries = {path: tree_maps.file_of(text, 0o640) for path, text in FILES.items()}
     entries.update({path: link_to(target) for path, target in LINKS.items()})
     found.update({(name.encode(),): Entry(0o755, 0, 0) for name in MOUNT_POINTS})
     entries["two-again"] = hard_link_to("two", entries["two"])
     for text, entry in entries.items():
-        path = tuple(part.encode() for part in text.split("/"))
-        for count in range(1, len(path)):
-            found.setdefault(path[:count], Entry(0o755, 0, 0))
-        found[path] = entry
+        tree_maps.add(found, text, entry)
     return found
 
 

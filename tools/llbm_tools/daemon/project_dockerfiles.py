@@ -6,7 +6,8 @@ import tarfile
 
 from llbm_tools.daemon.random_dockerfiles import Made
 from llbm_tools.daemon.runs import link_to
-from llbm_tools.trees.tree_maps import ROOT, Entry, Tree
+from llbm_tools.trees import tree_maps
+from llbm_tools.trees.tree_maps import ROOT, Tree
 
 NODE = """\
 FROM scratch AS base
@@ -90,11 +91,8 @@ def context(entries: dict[str, str]) -> Tree:
     """Returns a tree of files and links: `-> TARGET` is a link."""
     tree: Tree = {(): ROOT}
     for text, content in entries.items():
-        path = tuple(part.encode() for part in text.split("/"))
-        for count in range(1, len(path)):
-            tree.setdefault(path[:count], Entry(0o755, 0, 0))
         is_link = content.startswith("-> ")
-        tree[path] = link_to(content[3:]) if is_link else Entry(0o644, 0, 0, content.encode().hex().encode())
+        tree_maps.add(tree, text, link_to(content[3:]) if is_link else tree_maps.file_of(content))
     return tree
 
 

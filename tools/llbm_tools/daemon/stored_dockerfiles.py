@@ -16,6 +16,7 @@ from collections.abc import Iterator
 
 from llbm_tools import paths
 from llbm_tools.daemon.link_cases import MOUNT_POINTS
+from llbm_tools.trees import tree_maps
 from llbm_tools.trees.tree_maps import ROOT, Entry, Tree
 
 STORED = paths.ROOT / "daemon" / "dockerfiles"
@@ -36,20 +37,12 @@ def stored() -> Iterator[tuple[str, dict[str, str]]]:
         yield place.stem, parts_of(place.read_text("utf-8"))
 
 
-def add(tree: Tree, text: str, content: str) -> None:
-    """Adds a file to a tree, with the directories above it."""
-    path = tuple(part.encode() for part in text.split("/"))
-    for count in range(1, len(path)):
-        tree.setdefault(path[:count], Entry(0o755, 0, 0))
-    tree[path] = Entry(0o644, 0, 0, content.encode().hex().encode())
-
-
 def context_of(parts: dict[str, str]) -> Tree:
     """Returns the tree of the context."""
     tree: Tree = {(): ROOT}
     for name, content in parts.items():
         if name.startswith("context/"):
-            add(tree, name.removeprefix("context/"), content)
+            tree_maps.add(tree, name.removeprefix("context/"), tree_maps.file_of(content))
     return tree
 
 
@@ -68,7 +61,7 @@ def images_of(parts: dict[str, str]) -> dict[str, tuple[Tree, dict[str, object]]
             continue
         tree, config = found.setdefault(image, (with_mount_points(), {}))
         if kind == "image":
-            add(tree, path, content)
+            tree_maps.add(tree, path, tree_maps.file_of(content))
         else:
             config.update(json.loads(content))
     return found

@@ -218,15 +218,22 @@ class Adapter(Inspecting, Watching):
         return self.token is None or self.state not in (NEW, OPEN)
 
     def check_token(self, arguments: Object) -> None:
-        """Refuses a launch that does not have the token, if there is one."""
+        """Refuses a launch that does not have the token, if there is one, or that has one on standard input."""
         given = argument(arguments, "token", str, "")
-        if self.token is not None and not secrets.compare_digest(given.encode("utf-8", "replace"), self.token.encode()):
+        if self.token is None:
+            if "token" in arguments:
+                raise Refused(self.only_at_a_port("token"))
+        elif not secrets.compare_digest(given.encode("utf-8", "replace"), self.token.encode()):
             raise Refused("token is not the one that the adapter has printed")
+
+    def only_at_a_port(self, what: str) -> str:
+        """Returns why something is refused on standard input."""
+        return f"{what} needs an adapter at a port: {commands.shown('debug adapter')} --listen PORT"
 
     def attach(self, arguments: Object) -> None:
         """Starts the program for a client that has connected to a port."""
         if self.token is None:
-            raise Refused(f"attach needs an adapter at a port: {commands.shown('debug adapter')} --listen PORT")
+            raise Refused(self.only_at_a_port("attach"))
         self.launch(arguments)
 
     def launch(self, arguments: Object) -> None:

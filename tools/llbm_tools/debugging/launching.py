@@ -16,13 +16,12 @@ from collections.abc import Callable, Mapping
 from concurrent.futures import ThreadPoolExecutor
 from typing import IO, NamedTuple
 
-from llbm_tools import commands
 from llbm_tools.common import program_named, shortened
 from llbm_tools.debugging import vertex_lines
 from llbm_tools.debugging.arguments import Object, argument, of_kind
 from llbm_tools.debugging.original_files import Origins, origins_of
 from llbm_tools.debugging.raw_entries import readable
-from llbm_tools.definitions import faults
+from llbm_tools.definitions import faults, next_commands
 from llbm_tools.inputs import data_at, is_standard_input, opened_file
 from llbm_tools.llb import definition, given_definitions, names, no_definition, source_names
 from llbm_tools.llb.wire import Unreadable
@@ -44,9 +43,8 @@ EDITOR_ARGUMENTS = (
 )
 
 UNNAMED = "fault 121 "
-# The faults of trees' texts, and those of rows, which adopting can mend.
+# The faults of trees' texts.
 OF_A_TEXT = re.compile(r"fault (?:3[0-9] |185\b)")
-ADOPTED = re.compile(r"fault (?:86|88|89) ")
 MOST_OF_A_CAUSE = 300
 MOST_WORKERS = 64
 USUAL_WORKERS = 2
@@ -91,10 +89,9 @@ def cause_of(words: list[str], otherwise: str, entries: faults.Entries | None = 
     meaning = explained(words[0], entries)
     if not meaning:
         return words[0]
-    if ADOPTED.match(words[0]):
-        adopt, lint = commands.shown("adopt"), commands.shown("lint")
+    if hint := next_commands.hint_of(words[0]):
         named = [text for text in meaning if text.startswith(faults.ENTRY_NAME)][:1]
-        meaning = [faults.sentence_of(page(), words[0]), *named, f"({lint} prints all, {adopt} rewrites what can be)"]
+        meaning = [faults.sentence_of(page(), words[0]), *named, f"({hint})"]
     return f"{words[0]}: {shortened(' '.join(meaning), MOST_OF_A_CAUSE)}"
 
 

@@ -6,9 +6,9 @@ costs the texts of the trees that its worker works on, twice.
 
 from typing import NamedTuple
 
+from llbm_tools.common import names_in
 from llbm_tools.debugging.changes import Change
 from llbm_tools.debugging.last_event import Happened, Watch
-from llbm_tools.debugging.shown_trees import names_in
 from llbm_tools.sessions.session import Event
 
 # No tree has as many paths: all changes are looked at.
@@ -26,8 +26,8 @@ class Touched(NamedTuple):
 
 def is_at_or_below(path: str, other: str) -> bool:
     """Returns whether a path is another one or below it."""
-    names = names_in(other)
-    return names_in(path)[: len(names)] == names
+    names, there = names_in(other), names_in(path)
+    return names is not None and there is not None and there[: len(names)] == names
 
 
 def changes_at(happened: Happened | None, path: str) -> list[tuple[str, Change]]:

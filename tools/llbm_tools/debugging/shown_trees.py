@@ -4,7 +4,9 @@ import binascii
 import re
 from typing import NamedTuple
 
-from llbm_tools.common import printable
+from llbm_tools.common import names_in, printable
+from llbm_tools.streams import Refused
+from llbm_tools.trees.trees import words_of
 
 MOST_SHOWN = 4_096
 MOST_NAMES_SHOWN = 1_000
@@ -36,11 +38,11 @@ class Node(NamedTuple):
 
 def path_and_head(line: bytes) -> tuple[str, bytes]:
     """Splits a line of a tree's text: returns its path, and all that is before it."""
-    parts = {b"d ": 5, b"f ": 6}.get(line[:2])
-    words = line.split(b" ", parts - 1) if parts else []
-    if not words or len(words) != parts:
-        raise ValueError("a line is neither a directory nor a file")
-    return words[-1].decode("utf-8"), b" ".join(words[:-1])
+    try:
+        *head, path = words_of(line)
+    except Refused as fault:
+        raise ValueError(f"a line is {fault}") from fault
+    return path.decode("utf-8"), b" ".join(head)
 
 
 def node_of(head: bytes) -> Node:
@@ -70,21 +72,12 @@ def tree_of(lines: list[bytes]) -> Node:
     return root
 
 
-def names_in(text: str) -> list[str]:
-    """Returns the names of a path from the root: empty parts and `.` are dropped, `..` removes the last name."""
-    names: list[str] = []
-    for part in text.split("/"):
-        if part == "..":
-            names = names[:-1]
-        elif part not in ("", "."):
-            names.append(part)
-    return names
-
-
 def node_at(root: Node, text: str) -> Node:
     """Returns the node at a path."""
-    node, path = root, ""
-    for name in names_in(text):
+    node, path, names = root, "", names_in(text)
+    if names is None:
+        raise NoPath(f"not a path: {text}")
+    for name in names:
         if not node.is_directory():
             raise NoPath(f"{path} is a file")
         path = f"{path}/{name}"

@@ -4,7 +4,7 @@ import functools
 import re
 from collections.abc import Callable
 
-from llbm_tools.common import printable, shortened
+from llbm_tools.common import names_in, printable, shortened
 from llbm_tools.debugging import shown_trees, vertex_failures, worker_trees
 from llbm_tools.debugging.arguments import Object
 from llbm_tools.debugging.launching import Launched
@@ -250,7 +250,7 @@ class Views:
             node = shown_trees.node_at(root, path)
         except shown_trees.NoPath as fault:
             raise Refused(f"{expression}: {fault}") from fault
-        names = shown_trees.names_in(path)
+        names = names_in(path) or []
         shown: Object = {"result": shown_trees.description_of(node), "variablesReference": 0, "type": "file"}
         if not node.is_directory():
             return shown

@@ -7,8 +7,8 @@ import io
 import tarfile
 
 from llbm_tools.page import (
-    assets, contrast, editing, foreign, graphs, large, module_cases, orders, proof, served, statement_cases,
-    step_view_cases,
+    assets, contrast, control_cases, editing, foreign, graphs, large, module_cases, orders, proof, served,
+    statement_cases, step_view_cases,
 )
 from llbm_tools.page.driver import NARROW, WIDE, Page, check, same
 
@@ -349,7 +349,7 @@ WebAssembly.Instance = function (...given) {
 CASES = (
     the_start, the_tour_step_by_step, forth_and_back, another_way, a_failing_definition, a_definition_of_a_client,
     refused_files, a_source_without_a_tree, what_changed, caches_and_who_holds_them, sharing, the_keyboard,
-    names_for_screen_readers, wide_and_narrow, a_trap, *statement_cases.CASES, contrast.contrast_of_all_texts,
-    *foreign.CASES, *served.CASES, *step_view_cases.CASES, *proof.CASES, *orders.CASES, *graphs.CASES, *editing.CASES,
-    *large.CASES,
+    names_for_screen_readers, wide_and_narrow, a_trap, *statement_cases.CASES, *control_cases.CASES,
+    contrast.contrast_of_all_texts, *foreign.CASES, *served.CASES, *step_view_cases.CASES, *proof.CASES, *orders.CASES,
+    *graphs.CASES, *editing.CASES, *large.CASES,
 )  # fmt: skip

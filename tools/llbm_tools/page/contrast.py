@@ -1,15 +1,16 @@
-"""The contrast of the texts of the page with what is behind them, by the colors that the browser computed.
+"""The contrast of texts and of borders of the page with what is behind them, by the colors that the browser computed.
 
-The ratio is that of WCAG 2: 4.5 is wanted of each text, whatever its size, in both schemes of colors.
+The ratio is that of WCAG 2: 4.5 is wanted of each text, whatever its size, and 3 of the border of each field and
+button, in both schemes of colors.
 """
 
 from llbm_tools.page import foreign
 from llbm_tools.page.driver import NARROW, WIDE, Page, same
 
 LEAST = 4.5
+LEAST_OF_A_BORDER = 3
 
-# Returns the texts that are seen and have too little contrast, each with its ratio and its colors.
-SCRIPT = """(least => {
+COLORS = """
   const rgba = (color) => {
     const mixed = /^color\\(srgb ([^)]*)\\)/.exec(color);
     const numbers = (mixed ? mixed[1] : color).match(/[0-9.]+(?:e-?[0-9]+)?/g).map(Number);
@@ -30,6 +31,10 @@ SCRIPT = """(least => {
     return layers.reverse().reduce((below, color) => over(color, below), [255, 255, 255, 1]);
   };
   const found = [];
+"""
+
+# Returns the texts that are seen and have too little contrast, each with its ratio and its colors.
+SCRIPT = f"""(least => {{{COLORS}""" + """
   const check = (element, text) => {
     const style = getComputedStyle(element);
     if (!element.checkVisibility({ checkVisibilityCSS: true }) || element.closest('.hidden')) return;
@@ -56,10 +61,28 @@ SCRIPT = """(least => {
 })"""
 
 
+# Returns the fields and buttons whose border has too little contrast with what is around them. One that can't be used
+# needs none, nor has one whose border the browser draws, or that has a background of its own.
+BORDERS = f"""(least => {{{COLORS}""" + """
+  for (const element of document.querySelectorAll('input, select, textarea, button')) {
+    const style = getComputedStyle(element);
+    const isSeen = element.checkVisibility({ checkVisibilityCSS: true }) && !element.closest('.hidden');
+    if (!isSeen || element.disabled || style.borderTopStyle !== 'solid') continue;
+    const around = behind(element.parentElement);
+    const own = ratio(behind(element), around);
+    const contrast = ratio(over(rgba(style.borderTopColor), around), around);
+    const name = `${element.tagName}#${element.id}.${element.className} ${element.type}`;
+    if (Math.max(contrast, own) < least) found.push(`${contrast.toFixed(2)} ${name}`);
+  }
+  return [...new Set(found)];
+})"""
+
+
 def check_contrast(page: Page, what: str) -> int:
-    """Wants enough contrast of all texts that are seen, and returns how many texts there are."""
+    """Wants enough contrast of all texts and borders that are seen, and returns how many texts there are."""
     count, found = page.run(f"{SCRIPT}({LEAST})")
     same(found, [], f"texts with too little contrast, {what}")
+    same(page.run(f"{BORDERS}({LEAST_OF_A_BORDER})"), [], f"borders with too little contrast, {what}")
     return int(count)
 
 

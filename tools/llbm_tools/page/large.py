@@ -13,7 +13,9 @@ SEARCHED = 700
 MOST_VERTICES = 65535
 ALL_FILES = 100000
 LONG = 20000
-# A move over 196,605 events is done in many slices, between which frames are drawn. How long it takes is not tested.
+# A move over 196,605 events is done in slices of at most so many events, between which frames are drawn, and what it
+# passed goes to the worker in pieces of at most so many lines. How long it takes is not tested.
+MOST_EVENTS, MOST_LINES = 500, 5000
 LEAST_FRAMES = 5
 
 
@@ -195,15 +197,33 @@ def a_long_move_stops(page: Page) -> None:
     same(page.place()[0], place - 1, "a step back after a move that was stopped")
 
 
+# Keeps how many events each slice of a move has, and how many lines each message to a worker.
+COUNT = """(() => {
+  globalThis.llbmSlices = [];
+  globalThis.llbmPieces = [];
+  const post = globalThis.llbmPost ??= Worker.prototype.postMessage;
+  Worker.prototype.postMessage = function counted(data, ...more) {
+    if (['go', 'look'].includes(data?.call)) globalThis.llbmPieces.push(data.args[1].split('\\n').length);
+    return post.call(this, data, ...more);
+  };
+})()"""
+
+
 def moved(page: Page, what: str, name: str, place: tuple[int, int]) -> None:
-    """Presses a button, waits until the move ends at a place, and wants frames meanwhile."""
+    """Presses a button, waits until the move ends at a place, and wants short slices and frames meanwhile."""
+    begin = page.place()[0]
     page.run("globalThis.llbmLongest = globalThis.llbmFrames = 0")
+    page.run(COUNT)
     page.run(WATCH)
     start = time.monotonic()
     page.click(name)
     page.measure(what, [1000 * (time.monotonic() - start)])
     page.measure(f"{what}, the longest time without a frame", [float(page.run("globalThis.llbmLongest"))])
     same(page.place(), place, what)
+    slices, pieces = page.run("[globalThis.llbmSlices, globalThis.llbmPieces]")
+    check(max(slices) <= MOST_EVENTS, f"a slice of {max(slices)} events")
+    check(sum(slices) >= abs(place[0] - begin), f"{sum(slices)} events in all slices")
+    check(max(pieces) <= MOST_LINES, f"a piece of {max(pieces)} lines")
     frames = int(page.run("globalThis.llbmFrames"))
     check(frames >= LEAST_FRAMES, f"{frames} frames were drawn meanwhile")
 

@@ -148,6 +148,92 @@ def a_failure_names_what_touched_its_path(page: Page) -> None:
     page.check_answers()
 
 
+# A file that an action makes and the next one removes, and a copy of it: which of both trees is copied from is open.
+ACTIONS = """op {
+  file {
+    actions {
+      input -1
+      output -1
+      mkfile {
+        path "/a"
+      }
+    }
+    actions {
+      output -1
+      rm {
+        path "/a"
+      }
+    }
+    actions {
+      input %d
+      output 0
+      mkfile {
+        path "/b"
+      }
+    }
+  }
+}
+op {
+  inputs {
+    digest %%0
+  }
+  file {
+    actions {
+      input -1
+      output 0
+      mkdir {
+        path "/a"
+      }
+    }
+    actions {
+      input %d
+      secondaryInput %d
+      output 1
+      copy {
+        src "/a"
+        dest "/c/d"
+        createDestPath %s
+      }
+    }
+  }
+}
+op {
+  inputs {
+    digest %%1
+  }
+}
+"""
+
+
+def a_failed_action_says_why(page: Page) -> None:
+    """Runs file ops: an action fails, and the page has its cause, and which event last changed the path in that tree.
+
+    The tree that it copies from has no file, since an action removed it; in one where none has, nothing says so.
+    """
+    removed = "/a was removed last by event 3: worker 0, vertex 0: action 1: rm /a."
+    source = "The cause: nothing is at /a in the tree that it copies from."
+    for text, said in [
+        (ACTIONS % (1, 1, 0, "true"), f"{source} {removed}"),
+        (ACTIONS % (1, 1, -1, "true"), f"{source} No step before it changed /a there."),
+        (ACTIONS % (0, 1, 0, "false"), "The cause: there is no directory /c. No step before it changed /c there."),
+    ]:
+        page.load()
+        page.give_file("actions.text", text.encode(), "#definition-file")
+        page.browser.wait("definition.value !== ''")
+        page.submit()
+        page.open_case(text.encode(), [], 2, True)
+        page.run("document.getElementById('break-fail').click()")
+        page.click("go")
+        page.browser.wait(f"document.getElementById('cause').textContent === {json.dumps(said)}")
+        happened = page.text("happened")
+        check("by event 8: worker 0, vertex 1: action 1 (copy /a /c/d) fails" in happened, happened)
+        page.click("back")
+        page.browser.wait(f"document.getElementById('cause').textContent === {json.dumps(said)}")
+        page.click("back")
+        same(page.text("cause"), "", "the cause before the failure")
+        page.check_answers()
+
+
 def a_reload_keeps_the_session(page: Page) -> None:
     """Steps, and loads the page again by its address: the session is where it was."""
     page.example("tour")
@@ -164,5 +250,5 @@ def a_reload_keeps_the_session(page: Page) -> None:
 
 CASES = (
     an_idle_worker_says_why, two_orders_side_by_side, orders_on_a_cache_differ, a_failure_names_its_command,
-    a_failure_names_what_touched_its_path, a_reload_keeps_the_session,
+    a_failure_names_what_touched_its_path, a_failed_action_says_why, a_reload_keeps_the_session,
 )  # fmt: skip

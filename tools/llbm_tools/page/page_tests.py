@@ -26,7 +26,7 @@ from llbm_tools.command_line import Parser
 from llbm_tools.counts import Counts
 from llbm_tools.page import assets, browser, module_cases, pictures
 from llbm_tools.page import browser_cases as page_cases
-from llbm_tools.page.driver import Page, Wrong, same
+from llbm_tools.page.driver import WIDE, Page, Wrong, same
 from llbm_tools.streams import Failed, exit_status
 
 PLACE = module_cases.MODULE.parent
@@ -126,6 +126,7 @@ def result_in_browser(page: Page, case: Callable[[Page], None]) -> str:
         """Does the test, and wants no exception of the page's code and no error in its console that is not awaited."""
         page.browser.faults.clear()
         page.awaited.clear()
+        page.browser.size(*WIDE)
         case(page)
         found = [fault for fault in page.browser.faults if not any(one in fault for one in page.awaited)]
         same(found, [], "faults of the page's code")

@@ -68,19 +68,18 @@ def take_all(page: Page, folder: pathlib.Path) -> None:
 def take_pictures(page: Page, folder: pathlib.Path) -> None:
     """Writes pictures of the views, for the docs."""
 
-    def keep(name: str) -> None:
+    def keep(name: str, of: str = "") -> None:
         page.run(SHOWN)
-        (folder / f"page-{name}.png").write_bytes(page.browser.picture())
+        (folder / f"page-{name}.png").write_bytes(page.browser.picture(of))
 
     page.browser.size(*FIRST)
     show_start(page)
-    page.run(SHOWN)
-    (folder / "page-start.png").write_bytes(page.browser.picture("views"))
+    keep("start", "views")
     page.browser.size(*WIDE)
     page.load()
     page.choose("example", "tour")
     page.browser.wait("document.querySelectorAll('.local').length === 1")
-    keep("open")
+    keep("open", "open-view")
     page.example("tour")
     for _ in range(4):
         page.click("next")
@@ -91,10 +90,10 @@ def take_pictures(page: Page, folder: pathlib.Path) -> None:
     for _ in range(3):
         page.click("next")
     page.run("document.querySelectorAll('.change').forEach((one) => { one.open = true; })")
-    keep("graph")
+    keep("graph", "views")
     page.press("h")
     page.browser.wait("document.getElementById('share-view').open")
-    keep("share")
+    keep("share", "share-view")
     page.browser.size(*NARROW)
     show_failure(page)
     page.browser.wait("document.getElementById('cause').textContent.includes('No step before it')")

@@ -2,11 +2,11 @@
 
 In: the sources in crates/. `dev/dev claims STATEMENT` prints every definition that a statement depends on, nearest
 first, each with its file and line, then the types of src/ that they name, and the number of lines in each file;
-STATEMENT is a column of the table in docs/CLAIMS.md: aim, load, assemble, disassemble, describe, run, show, findings,
-plan, matches, agrees, ops, asm, dis, step or program. `--first` prints the definitions to read first, in the order of
-questions.md here, each below its question. `--bodies` prints the wrong bodies that the prover refuses, each with its file and its
-function. `--write` writes the tables in docs/CLAIMS.md from the sources: for each statement the number of definitions
-and lines to read, and the number of wrong bodies. `--check` compares the page with the sources.
+STATEMENT is a column of the table in docs/CLAIMS.md: aim, load, assemble, disassemble, run, show, findings, plan,
+matches, agrees, ops, asm, dis, step or program. `--first` prints the definitions to read first, in the order of
+questions.md here, each below its question. `--bodies` prints the wrong bodies that the prover refuses, each with its
+file and its function. `--write` writes the tables in docs/CLAIMS.md from the sources: for each statement the number of
+definitions and lines to read, and the number of wrong bodies. `--check` compares the page with the sources.
 
 Out: definitions or wrong bodies on standard output, or with --check a line for each table that differs.
 
@@ -37,7 +37,6 @@ STATEMENTS = {
     "load": ("llb_loader", "loading.rt", "load"),
     "assemble": ("llb_asm", "assembling.rt", "assemble"),
     "disassemble": ("llb_asm", "print.rt", "disassemble"),
-    "describe": ("llb_asm", "print.rt", "describe"),
     "run": ("llb_commands", "run.rt", "run_many_over"),
     "show": ("llb_commands", "show.rt", "show_over"),
     "findings": ("llb_commands", "finding_lines.rt", "findings_over"),

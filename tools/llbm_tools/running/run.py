@@ -36,7 +36,7 @@ from typing import BinaryIO, cast
 from llbm_tools import commands
 from llbm_tools.command_line import Parser, print_all
 from llbm_tools.common import MOST_BYTES, say
-from llbm_tools.definitions import faults
+from llbm_tools.definitions import faults, next_commands
 from llbm_tools.rules import notes
 from llbm_tools.running import given_trees, run_records
 from llbm_tools.running.command_words import COMMANDS, USUALLY
@@ -123,7 +123,8 @@ def explained(explainer: faults.Explainer, run: Run, line: str, reasons: Reasons
         meanings = explainer.lines(line)
     except faults.NoLine:
         meanings = []
-    return [*(reasons.of_line(line) if reasons else []), *causes_of(run, line), *meanings]
+    hint = next_commands.hint_of(line)
+    return [*(reasons.of_line(line) if reasons else []), *causes_of(run, line), *meanings, *([hint] if hint else [])]
 
 
 def print_errors(program: str, run: Run, text: bytes) -> None:

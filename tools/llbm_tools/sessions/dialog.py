@@ -1,4 +1,4 @@
-"""The two streams of a session of `llbm step`, which is run with `--looks` and `--ends`: an empty line ends each answer.
+"""The two streams of a session of `llbm step`, run with `--looks` and `--ends`: an empty line ends each answer.
 
 The commands and their answers are those of docs/FORMATS.md, under "A stepping session" and "The lines of a record".
 """

@@ -30,6 +30,19 @@ def empty() -> Tree:
     return {(): ROOT}
 
 
+def add(tree: Tree, text: str, entry: Entry) -> None:
+    """Adds an entry at a path, which begins with no slash, and the directories above it that are not there."""
+    path = tuple(part.encode() for part in text.split("/"))
+    for count in range(1, len(path)):
+        tree.setdefault(path[:count], ROOT)
+    tree[path] = entry
+
+
+def file_of(text: str, mode: int = 0o644) -> Entry:
+    """Returns a file with a text."""
+    return Entry(mode, 0, 0, text.encode().hex().encode())
+
+
 def tree_of(lines: Iterable[bytes]) -> Tree:
     """Parses the lines of a tree's text, each with its line end."""
     return {tuple(one.names): Entry(one.mode, one.user, one.group, one.content) for _, one in trees.checked(lines)}

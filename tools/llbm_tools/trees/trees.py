@@ -63,16 +63,22 @@ def names_of(path: bytes) -> Names:
     return names
 
 
+def words_of(line: bytes) -> list[bytes]:
+    """Returns the words of a line without its end: its kind, mode and owner, the content of a file, and the path."""
+    parts = {b"d ": 5, b"f ": 6}.get(line[:2], 0)
+    words = line.split(b" ", parts - 1) if parts else []
+    if len(words) != parts or not parts:
+        raise Refused("neither d MODE UID GID PATH nor f MODE UID GID CONTENT PATH")
+    return words
+
+
 def entry_of(line: bytes) -> Entry:
     """Parses a line by itself."""
     if not line.endswith(b"\n"):
         raise Refused("the line does not end with a newline")
-    parts = {b"d ": 5, b"f ": 6}.get(line[:2], 0)
-    words = line[:-1].split(b" ", parts - 1) if parts else []
-    if len(words) != parts or not parts:
-        raise Refused("neither d MODE UID GID PATH nor f MODE UID GID CONTENT PATH")
+    words = words_of(line[:-1])
     mode, user, group = mode_of(words[1]), owner_of(words[2]), owner_of(words[3])
-    content = content_of(words[4]) if parts == 6 else None
+    content = content_of(words[4]) if len(words) == 6 else None
     names = names_of(words[-1])
     if content is not None and not names:
         raise Refused("the root is not a directory")

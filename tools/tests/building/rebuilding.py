@@ -134,7 +134,7 @@ class Replacing(Rebuilds):
         for data in [b"", b"llbm-build kept 7\n"]:
             self.file(b"kept", data)
             self.assertEqual(self.replace("--mtime", str(len(data))).returncode, 0)
-            self.assertTrue((self.at / "kept").read_bytes().startswith(kept_builds.FORM))
+            self.assertTrue((self.at / "kept").read_bytes().startswith(kept_builds.FIRST_LINE))
 
     def test_a_result_is_written_though_nothing_could_be_kept(self):
         os.mkdir(self.at / "folder")
@@ -212,7 +212,7 @@ class Replacing(Rebuilds):
             done = self.replace("--strict")
             path = f"/{place}"
             lines = [f"left out: an extended attribute, user.note: {path}", "left out: 1 extended attribute"]
-            wanted = [*lines, "refused: something was left out", "nothing is written"]
+            wanted = [*lines, "refused: something was left out: in", "nothing is written"]
             self.assertEqual((done.returncode, done.stderr.decode().splitlines()[-4:]), (2, wanted))
             os.removexattr(self.at / "in" / place, "user.note")
             done = self.replace("--strict")

@@ -17,8 +17,8 @@ import unittest
 from unittest import mock
 
 from llbm_tools.daemon import (
-    against_buildkit, cases, daemon, fixed_sets, link_cases, project_dockerfiles, random_definitions, random_dockerfiles, runs,
-    scripted_runc, started_daemon, stored_dockerfiles,
+    against_buildkit, cases, daemon, fixed_sets, link_cases, project_dockerfiles, random_definitions,
+    random_dockerfiles, runs, scripted_runc, started_daemon, stored_dockerfiles,
 )  # fmt: skip
 from llbm_tools.rules import examples
 from llbm_tools.streams import Refused

@@ -173,8 +173,13 @@ class Refused(WithFake):
             line = "LLBM_DEBUG_TOKEN has fewer than 16 characters of ASCII, or spaces"
             self.assertEqual(self.run_with("--listen", "0", LLBM_DEBUG_TOKEN=token), (2, line))
 
-    def test_attach_is_for_a_port(self):
+    def test_attach_and_a_token_are_for_a_port(self):
+        self.set_behavior(DONE)
         client = self.opened()
-        message = client.refused("attach", **self.given)
-        self.assertRegex(message, "^attach needs an adapter at a port: .* --listen PORT$")
+        for command, given, what in [
+            ("attach", {}, "attach"), ("attach", {"token": TOKEN}, "attach"), ("launch", {"token": TOKEN}, "token"),
+        ]:
+            message = client.refused(command, **self.given, **given)
+            self.assertRegex(message, f"^{what} needs an adapter at a port: .* --listen PORT$")
+        client.ask("launch", **self.given)
         self.assertEqual(client.leave(), 0)

@@ -17,6 +17,12 @@ def taken(path, dest="/"):
     return base.number(1, -1) + base.number(2, 0) + made
 
 
+def without(path):
+    """Returns the actions that copy `/b` onto the empty tree, and remove what is at a path."""
+    removed = base.number(1, 1) + base.number(2, -1) + base.rm(path)
+    return [taken("/b") + base.number(3, -1), removed]
+
+
 class Runs(Folder):
     """Runs of both definitions on two trees of one source."""
 
@@ -24,7 +30,7 @@ class Runs(Folder):
         if base.llbm is None:
             raise unittest.SkipTest("the program llbm is needed (--llbm PROGRAM)")
         super().setUp()
-        self.first, self.second = base.file_op(taken("/[a]"), on=[LEFT]), base.file_op(taken("/[b]"), on=[LEFT])
+        self.first, self.second = base.file_op(*without("/b/f"), on=[LEFT]), base.file_op(taken("/b"), on=[LEFT])
         self.data = base.ending(LEFT, self.first, self.second, base.merge(self.first, self.second))
         self.make(b"a/f", b"1")
         self.make(b"b/f", b"1")
@@ -50,7 +56,7 @@ class Runs(Folder):
         self.assertEqual((done.returncode, done.stderr), (0, b""))
         return done.stdout.decode().splitlines()
 
-    def test_only_what_reads_the_changed_path_is_changed(self):
+    def test_only_what_keeps_what_changed_is_changed(self):
         self.assertEqual(self.lines(self.both())[:6], [
             "result 3.0 changed", "0 source changed by left", "1 file same by left", "2 file changed by left",
             "3 merge changed by left", "4 vertices: 0 kept, 0 new, 0 cached, 1 same, 3 changed; 0 of OLD gone",
@@ -75,7 +81,7 @@ class Runs(Folder):
         self.assertEqual(lines[:3], ["result 1.0 changed", "0 source changed by left", "1 file changed by left"])
 
     def test_the_same_failure_on_both_sides_is_no_change(self):
-        data = base.ending(LEFT, base.file_op(taken("/[n]one"), on=[LEFT]))
+        data = base.ending(LEFT, base.file_op(*without("/none"), on=[LEFT]))
         lines = self.lines(self.both(old=data, new=data))
         self.assertEqual(lines[:3], ["result 1.0 same", "0 source changed by left", "1 file same by left"])
 
@@ -149,5 +155,10 @@ class Texts(Folder):
     def test_a_foreign_definition_has_the_tool_that_adopts_it(self):
         done = run("explain-run", "--llbm", base.llbm, base.ROOT / "examples" / "foreign.llb")
         self.assertEqual((done.returncode, done.stdout), (2, b""))
-        hint = f" {commands.shown('adopt')} rewrites what can be.\n"
-        self.assertTrue(done.stderr.decode().endswith(hint), done.stderr)
+        hint = f"{commands.shown('lint')} prints all, {commands.shown('adopt')} rewrites what can be"
+        self.assertTrue(done.stderr.decode().endswith(f"({hint})\n"), done.stderr)
+        place = base.ROOT / "examples" / "foreign.llb"
+        for words in [("build", "--llbm", base.llbm, place, self.place(b"out")), ("run", "--llbm", base.llbm, "show")]:
+            done = run(*words, text=place.read_bytes())
+            self.assertEqual(done.returncode, 2, words)
+            self.assertIn(f"  {hint}", done.stderr.decode().splitlines(), words)

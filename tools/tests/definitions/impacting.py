@@ -326,7 +326,7 @@ class Refusals(Pair):
         cause = f"fault 88 0 Source; {commands.shown('lint')} prints why"
         self.check_refused(f"new: {cause}", new=image)
         self.check_refused(f"old: {cause}", old=image)
-        self.check_refused("new: fault 81 1; ", new=b"\x0a")
+        self.check_refused("not a definition: the bytes end inside a record: ", new=b"\x0a")
 
     def test_a_definition_can_come_from_standard_input(self):
         place = self.file(b"old", self.old)

@@ -1,7 +1,8 @@
-"""A machine of Node in the place of the page's, for tests of modules that ask it for digests and findings alone."""
+"""A machine of Node in the place of the page's, for tests of modules that ask it for digests, findings and ops."""
 
-# Gives `from`, which imports a module of the page, and `machineOf`, which makes a machine that finds the lines that are
-# given; its digests are those of Node. The words of the command line are the page's folder and its tables.
+# Gives `from`, which imports a module of the page, and `machineOf`, which makes a machine that finds the lines and has
+# the ops that are given; its digests are those of Node. The words of the command line are the page's folder and its
+# tables.
 MACHINE = """
 import { createHash } from 'node:crypto';
 import fs from 'node:fs';
@@ -11,7 +12,7 @@ const from = (name) => import(`${page}/${name}`);
 const { joined, recordOf } = await from('records.mjs');
 const digestOf = (bytes) => `sha256:${createHash('sha256').update(bytes).digest('hex')}`;
 class Handle {
-  constructor(lines) { this.lines = lines; }
+  constructor(lines, ops) { Object.assign(this, { lines, ops: () => { this.out = Buffer.from(ops); return 0; } }); }
   findings() { this.out = this.lines; }
   asm(text) {
     const raw = [...text.matchAll(/^raw (.*)$/gm)].map(([, hex]) => Buffer.from(hex === '-' ? '' : hex, 'hex'));
@@ -22,5 +23,5 @@ class Handle {
   output() { return this.out; }
   text() { return this.out; }
 }
-const machineOf = (lines) => ({ handle: () => new Handle(lines) });
+const machineOf = (lines, ops = '') => ({ handle: () => new Handle(lines, ops) });
 """

@@ -30,9 +30,9 @@ const { findingsOf } = await from('findings.mjs');
 const { adopted } = await from('adopting.mjs');
 const { Rows } = await from('refused_rows.mjs');
 for (const line of fs.readFileSync(0, 'utf8').split('\\n').filter(Boolean)) {
-  const [given, lines] = JSON.parse(line);
+  const [given, lines, ops] = JSON.parse(line);
   const definition = new Uint8Array(Buffer.from(given, 'base64'));
-  const machine = machineOf(lines);
+  const machine = machineOf(lines, ops);
   const findings = findingsOf(machine, definition);
   let adoption = null;
   if (!findings.some(({ number }) => number === 81)) {
@@ -106,9 +106,9 @@ class LikeTheTools(Folder):
 
     @staticmethod
     def line_of(data):
-        """Returns a line with a definition, and with what the program finds in it."""
-        found = ask(base.llbm, "show", "--findings", given=data).text
-        return json.dumps([base64.b64encode(data).decode(), found]) + "\n"
+        """Returns a line with a definition, with what the program finds in it, and with its ops."""
+        found, ops = (ask(base.llbm, "show", option, given=data).text for option in ("--findings", "--ops"))
+        return json.dumps([base64.b64encode(data).decode(), found, ops]) + "\n"
 
     def check_all(self, definitions):
         """Compares findings and adoptions of definitions, and returns how many are refused."""

@@ -87,11 +87,15 @@ class LongRecords(Parts):
           const events = {self.EVENTS};
           for (let n = 0; n < 1000; n += 1) {{
             for (let i = 0; i < 100; i += 1) ways.add(events[n * 100 + i]);
-            track.follow(ways, ways.end());
+            for (const turns = track.following(ways, ways.end()); !turns.next().done;);
           }}
-          return [added, track.path.length];
+          const again = new m.Track([]);
+          const counts = [];
+          for (const turns = again.following(ways, ways.end()); !turns.next().done;) counts.push(again.path.length);
+          const most = counts.reduce((large, count, i) => Math.max(large, count - (counts[i - 1] ?? 0)), 0);
+          return [added, track.path.length, again.path.length, most <= m.MOST_AT_ONCE, counts.length];
         }})()"""
-        self.assertEqual(self.node("time_track.mjs", text), [100001, 100001])
+        self.assertEqual(self.node("time_track.mjs", text), [100001, 100001, 100001, True, 50])
 
 
 class Edges(Parts):
@@ -205,12 +209,44 @@ class Words(Parts):
           }});
           const found = ['there is no file /src/a', 'nothing is at /b/c', 'it always fails', 'none'].map((words) => (
             m.causeOf(session(words, before))));
-          return [...found.map((one) => one && [one.words, one.path ?? null, one.mount?.input ?? null]),
+          return [...found.map((one) => one && [one.words, one.path ?? null, one.tree?.mount.input ?? null]),
             m.causeOf(session('x', before.before))];
         }})()"""
         self.assertEqual(self.node("causes.mjs", text), [
             ["there is no file /src/a", "/sub/a", 1], ["nothing is at /b/c", "/b/c", 0],
             ["it always fails", None, None], None, None,
+        ])
+
+    def test_a_cause_of_an_action_has_the_tree_that_it_is_about(self):
+        graph = {"vertices": [
+            {"inputs": []},
+            {"inputs": [{"vertex": 0, "output": 1}]},
+            {"inputs": [{"vertex": 1, "output": 0}]},
+        ]}
+        first = {"mounts": [], "actions": [{"input": -1, "output": -1}, {"input": 0, "output": 1}, {"input": 0}]}
+        second = {"mounts": [{"dest": "/", "input": 0, "output": 0}, {"dest": "/m", "input": 0}], "actions": []}
+        last = {"mounts": [], "actions": [{"input": -1}, {"input": 1, "from": 0}]}
+        text = f"""(() => {{
+          const before = {{ before: {{ event: null }}, event: {{ kind: 'claim', worker: 0, vertex: 2, reply: '' }} }};
+          const event = {{ kind: 'step', worker: 0, vertex: 2, reply: 'fault 1 21', number: 9 }};
+          const session = (words) => ({{
+            ways: {{ at: {{ before, event }} }}, entries: {json.dumps([first, second, last])},
+            graph: {json.dumps(graph)}, to() {{}}, lines: () => [words],
+          }});
+          const steps = [[0, 'result 0'], [0, 'result 1'], [0, 'result 2'], [1, 'mount /'], [1, 'mount /m'],
+            [2, 'result 0'], [2, 'result 1']];
+          const paths = ['nothing is at /a', 'nothing is at /a in the tree that it copies from', '/a is a file'];
+          return [...paths, 'nothing matches the text of src'].map((words) => {{
+            const cause = m.causeOf(session(words));
+            const isMaker = cause.path && m.makersOf(session(words), cause);
+            return [cause.words === words, cause.path ?? null,
+              steps.filter(([vertex, name]) => isMaker?.({{ vertex }}, name)).map((one) => one.join(' '))];
+          }});
+        }})()"""
+        own = ["2 result 0"]
+        before = ["0 result 0", "0 result 1", "1 mount /"]
+        self.assertEqual(self.node("causes.mjs", text), [
+            [True, "/a", own], [True, "/a", before], [True, "/a", own], [True, None, []],
         ])
 
     def test_a_failure_has_the_step_that_failed(self):

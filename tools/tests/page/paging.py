@@ -182,10 +182,12 @@ class InNode(Folder):
           const add = (command) => ways.add({ command });
           add('claim 0 0'); add('step 0'); ways.back(1); add('settle 0');
           ways.back(0); add('claim 0 0'); add('step 0');
-          const commands = ways.branches().map(({ places }) => places.map(({ event }) => event.command));
-          return [ways.count, ways.at.way, commands];
+          const commands = (last, count) => ways.between(last, count).map(({ event }) => event.command);
+          const beside = (place) => ways.beside(place).map(({ way, last, count }) => [way, commands(last, count)]);
+          const other = ways.newest[1];
+          return [ways.count, ways.at.way, beside(ways.at), beside(other), ways.route(other).back];
         })()"""
-        self.assertEqual(self.node("event_tree.mjs", text), [2, 0, [["claim 0 0", "step 0"], ["settle 0"]]])
+        self.assertEqual(self.node("event_tree.mjs", text), [2, 0, [[1, ["settle 0"]]], [[0, ["step 0"]]], 1])
 
     def test_a_link_carries_what_was_put_into_it(self):
         given = {"text": "op {\n}\n", "locals": [["a", "d 0755 0 0 /\n"]], "workers": 3, "lines": ["claim 0 0"]}
@@ -194,12 +196,12 @@ class InNode(Folder):
     def vertices(self, file, text):
         """Returns the values of an expression over each vertex `v` of a definition, by the program's numbers."""
         data = file.read_bytes()
-        lines = ask(base.llbm, "show", "--plan", given=data).text.splitlines()[:-1]
+        plan, ops = (ask(base.llbm, "show", option, given=data).text for option in ("--plan", "--ops"))
         script = node_machine.MACHINE + f"""
           const {{ verticesOf }} = await from('definition.mjs');
           const definition = new Uint8Array(fs.readFileSync({json.dumps(str(file))}));
-          const digests = {json.dumps([line.split()[1] for line in lines])};
-          const found = verticesOf(machineOf(''), definition, digests).map((v) => {text});
+          const digests = {json.dumps([line.split()[1] for line in plan.splitlines()[:-1]])};
+          const found = verticesOf(machineOf('', {json.dumps(ops)}), definition, digests).map((v) => {text});
           console.log(JSON.stringify(found));"""
         words = ["node", "--input-type=module", "-e", script, PAGE.as_uri(), self.file(b"tables.json", assets.tables())]
         done = subprocess.run(words, capture_output=True, timeout=base.GUARD)
@@ -223,6 +225,22 @@ class InNode(Folder):
         self.assertEqual([group for group, _ in found], [name.group for name in named])
         self.assertEqual([place.rpartition(": ")[0] for _, place in found], [name.place for name in named])
         self.assertIn("Dockerfile:3: COPY . .", [place for _, place in found])
+
+    def test_an_op_has_the_values_of_its_text(self):
+        made = (
+            "op {{\n{}file {{\nactions {{\ninput -1\nsecondaryInput -1\nmkfile {{\n"
+            'path "/a\\"\\\\\\x0a é"\ndata 00ff\ntimestamp -9223372036854775808\n}}\n}}\n}}\n}}\n'
+        )
+        last = "op {\ninputs {\ndigest %1\n}\n}\n"
+        text = made.format("") + made.format("inputs {\ndigest %0\n}\n") + last
+        data = subprocess.run([base.llbm, "asm"], input=text.encode(), capture_output=True, check=True).stdout
+        file = pathlib.Path(os.fsdecode(self.file(b"definition", data)))
+        body = "v.op.file.actions[0].mkfile"
+        shown = f"[{body}.path, [...{body}.data], String({body}.timestamp), v.op.inputs.map((one) => one.digest)]"
+        first, second = self.vertices(file, shown)
+        self.assertEqual(first, ['/a"\\\n é', [0, 255], str(-(2**63)), []])
+        self.assertEqual(second[:3], first[:3])
+        self.assertEqual(second[3], [self.vertices(file, "v.digest")[0]])
 
     def test_a_script_has_its_commands(self):
         found = self.vertices(ROOT / "examples" / "tour.definition", "v.commands")

@@ -88,7 +88,8 @@ class Bash(Folder):
         self.assertEqual(self.complete("llbm", ""), first)
         self.assertEqual(self.complete("llbm", "s"), ["show", "step"])
         self.assertEqual(self.complete("llbm", "run", "-"), ["--help", "--workers", "-h"])
-        self.assertEqual(self.complete("llbm", "show", "-"), ["--findings", "--help", "--matches", "--plan", "-h"])
+        of_show = ["--agrees", "--findings", "--help", "--matches", "--older", "--ops", "--plan", "-h"]
+        self.assertEqual(self.complete("llbm", "show", "-"), of_show)
         self.assertEqual(self.complete("llbm", "nosuch", ""), [])
 
     def test_numbers_of_workers_are_completed(self):

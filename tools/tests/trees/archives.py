@@ -133,7 +133,8 @@ class TreeOfTar(Folder):
 
     def test_a_strict_run_refuses_an_archive_with_other_kinds(self):
         given, errors = self.no_files()
-        self.check_run(self.read_tar(given, "--strict"), 2, b"", errors + b"refused: something was left out: standard input\n")
+        refused = b"refused: something was left out: standard input\n"
+        self.check_run(self.read_tar(given, "--strict"), 2, b"", errors + refused)
         self.check_text(tar(entry("a", b"a")), ["d 0755 0 0 /", "f 0644 0 0 61 /a"], words=["--strict"])
 
     def test_extended_attributes_are_left_out(self):

@@ -15,5 +15,6 @@ loop-entry-preserved c =
     take_more c.args.entries.now c.loop-entry.entry-index entry c.loop-entry-test.true
     ∙ ap (λ e. take c.loop-entry.entry-index c.args.entries.now ++ e ∷ []) (sym c.entry-item.is) in
     let law : EntryHasFields entry = subst EntryHasFields c.as_slice.ensures c.entry_has_fields.ensures in
-    subst (λ es. (ys : List Formed) × AreFormedBy (HasBy c.args.wording) es ys) (sym more) (formed_more (HasBy c.args.wording) (take c.loop-entry.entry-index c.args.entries.now) xs entry are
-    (form_by c.args.wording entry law))
+    let has = HasBy c.args.wording in
+    subst (λ es. (ys : List Formed) × AreFormedBy has es ys) (sym more)
+    (formed_more has (take c.loop-entry.entry-index c.args.entries.now) xs entry are (form_by c.args.wording entry law))

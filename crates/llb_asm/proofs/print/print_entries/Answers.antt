@@ -14,10 +14,11 @@ returns-in_err-print_entry-clause-prints g c = λ xs are.
     let k = c.loop-entry.entry-index in
     let labels = c.loop-entry.labels in
     let text = text_of_lines (plain_lines c.args.labels.now xs) in
-    let next : Next (HasBy c.args.wording) xs k entry = next_form (HasBy c.args.wording) c.args.entries.now xs k entry are c.loop-entry-test.true c.entry-item.is in
+    let has = HasBy c.args.wording in
+    let next : Next has xs k entry = next_form has c.args.entries.now xs k entry are c.loop-entry-test.true c.entry-item.is in
     stops_inside (g.W.Sink.taken c.args.out.now) (g.W.Sink.taken c.loop-entry.out) (g.W.Sink.taken c.print_entry.new.out)
     (g.W.Sink.failed c.print_entry.new.out) text done (text_of_lines (entry_lines labels entry next.form))
-    (text_of_lines (plain_lines (labels ++ digest_text entry ∷ []) (drop (k + 1) xs))) before (entry_done text done labels xs k split (HasBy c.args.wording) entry next)
+    (text_of_lines (plain_lines (labels ++ digest_text entry ∷ []) (drop (k + 1) xs))) before (entry_done text done labels xs k split has entry next)
     c.in_err-print_entry.field-0.0
     (c.in_err-print_entry.ensures.prints next.form next.has) c.from_residual.result c.from_residual.ensures.1
 
@@ -28,15 +29,16 @@ loop-entry-preserved g c = record {
       let entry : List ℕ = c.entry-item.result in
       let k = c.loop-entry.entry-index in
       let labels = c.loop-entry.labels in
-      let next : Next (HasBy c.args.wording) xs k entry =
-          next_form (HasBy c.args.wording) c.args.entries.now xs k entry are c.loop-entry-test.true c.entry-item.is in
+      let has = HasBy c.args.wording in
+      let next : Next has xs k entry = next_form has c.args.entries.now xs k entry are c.loop-entry-test.true c.entry-item.is in
+      let same_labels = sym c.in_ok-print_entry.ensures.labels in
       let line = text_of_lines (entry_lines labels entry next.form) in
       let rest = text_of_lines (plain_lines (labels ++ digest_text entry ∷ []) (drop (k + 1) xs)) in (
         done ++ line,
         Appends-trans (g.W.Sink.taken c.args.out.now) (g.W.Sink.taken c.loop-entry.out) (g.W.Sink.taken c.print_entry.new.out) done line before
             (c.in_ok-print_entry.ensures.prints next.form next.has),
-        entry_done (text_of_lines (plain_lines c.args.labels.now xs)) done labels xs k split (HasBy c.args.wording) entry next
-            ∙ sym (append_assoc done line rest) ∙ ap (λ ls. (done ++ line) ++ text_of_lines (plain_lines ls (drop (k + 1) xs))) (sym c.in_ok-print_entry.ensures.labels),
+        entry_done (text_of_lines (plain_lines c.args.labels.now xs)) done labels xs k split has entry next ∙ sym (append_assoc done line rest)
+            ∙ ap (λ ls. (done ++ line) ++ text_of_lines (plain_lines ls (drop (k + 1) xs))) same_labels,
       );
   same = c.in_ok-print_entry.ensures.same ∙ c.loop-entry.invariant.same;
 }

@@ -30,7 +30,7 @@ returns g c =
     inr (
       λ h. h,
       unflushed (AreBy c.args.written) left c.in_ok-entries.entries c.in_ok-entries.ensures text.0 text.1
-      (g.W.Write.contents c.args.out.now) (g.W.Write.contents c.text_over.new.out)
+          (g.W.Write.contents c.args.out.now) (g.W.Write.contents c.text_over.new.out)
           (g.W.Write.contents c.flush.new.self) text.2 c.flush.ensures.bytes,
     )
 

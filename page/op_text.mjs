@@ -1,0 +1,104 @@
+/**
+ * The ops of a definition, from the text that the machine writes of them (`ops`): the entries are found at once, and an
+ * op is read when it is asked for, into fields by the tools' table of messages.
+ */
+
+import { tables } from './tables.mjs';
+import { bytesOfHex } from './tree_text.mjs';
+
+const [LINE_END, LETTER_R, BRACE] = [10, 114, 125];
+const MEMBER = /^ {2}(exec|source|file|build|merge|diff) /m;
+const ESCAPE = /\\(?:x([0-9a-f]{2})|(.))/g;
+const DEFAULTS = { string: '', bytes: new Uint8Array(0), bool: false, int64: 0, int32: 0, enum: 0, uint32: 0 };
+
+const decoder = new TextDecoder('utf-8', { ignoreBOM: true });
+const known = new Map();
+
+// Returns the fields of a message by name.
+function fieldsOf(name) {
+  if (!known.has(name)) known.set(name, new Map(tables.messages[name].map((field) => [field.name, field])));
+  return known.get(name);
+}
+
+/** Returns the numbers of a message's members of a oneof. */
+export function membersOf(name) {
+  return new Set(tables.messages[name].filter((field) => field.member).map(({ number }) => number));
+}
+
+function emptyOf(fields) {
+  const message = { kind: null };
+  for (const { name, kind, repeated, member, isMessage } of fields.values()) {
+    if (repeated) message[name] = [];
+    else message[name] = member || isMessage ? null : DEFAULTS[kind];
+  }
+  return message;
+}
+
+function stringIn(text) {
+  const inner = text.slice(1, -1);
+  if (!inner.includes('\\')) return inner;
+  return inner.replace(ESCAPE, (_, code, letter) => letter ?? String.fromCharCode(parseInt(code, 16)));
+}
+
+// Returns the value that a text spells; a label is the digest of an earlier entry.
+function valueIn(kind, text, digests) {
+  if (text.startsWith('%')) return digests[Number(text.slice(1))];
+  if (kind === 'string') return stringIn(text);
+  if (kind === 'bytes') return bytesOfHex(text === '-' ? '' : text);
+  if (kind === 'bool') return text === 'true';
+  const number = Number(text);
+  return Number.isSafeInteger(number) ? number : BigInt(text);
+}
+
+// Returns the message whose lines follow, up to the one that closes it. Extra bytes are left out.
+function messageIn(name, lines, digests) {
+  const fields = fieldsOf(name);
+  const message = emptyOf(fields);
+  for (let line = lines.next().value; line !== '}'; line = lines.next().value) {
+    const cut = line.indexOf(' ');
+    const field = fields.get(line.slice(0, cut));
+    if (!field) continue;
+    const { kind, isMessage, repeated, member } = field;
+    const value = isMessage ? messageIn(kind, lines, digests) : valueIn(kind, line.slice(cut + 1), digests);
+    if (repeated) message[field.name].push(value);
+    else message[field.name] = value;
+    if (member) message.kind = field.name;
+  }
+  return message;
+}
+
+/** Returns where each entry of a text ends: after a line `raw ..`, or after the line that closes an op. */
+export function endsOf(text) {
+  const ends = [];
+  for (let at = 0; at < text.length;) {
+    const end = text.indexOf(LINE_END, at) + 1;
+    if (text[at] === LETTER_R || text[at] === BRACE) ends.push(end);
+    at = end;
+  }
+  return Uint32Array.from(ends);
+}
+
+/** The ops of a definition, given their text, where each entry ends in it, and the digests of the entries. */
+export class Ops {
+  constructor({ text, ends }, digests) {
+    this.text = text;
+    this.ends = ends;
+    this.digests = digests;
+  }
+
+  // Returns the text of an entry.
+  entry(row) {
+    return decoder.decode(this.text.subarray(row ? this.ends[row - 1] : 0, this.ends[row]));
+  }
+
+  /** Returns the kind of the op of a row; empty if it has none, or can't be read. */
+  kindOf(row) {
+    return MEMBER.exec(this.entry(row))?.[1] ?? '';
+  }
+
+  /** Returns the op of a row, or null where it can't be read. */
+  read(row) {
+    const lines = this.entry(row).split('\n').map((line) => line.trimStart()).values();
+    return lines.next().value === 'op {' ? messageIn('Op', lines, this.digests) : null;
+  }
+}
