@@ -32,6 +32,7 @@ use Rattle.llb_commands.specs.Running.{passed_on, unread_as, IsRefusal, TellsRef
 use Rattle.llb_commands.specs.declared.run.Ended.{Ended}
 use Rattle.llb_commands.specs.declared.run.Ended.TheVariants as ended
 use Rattle.llb_commands.specs.Assembly.{IsUnread}
+use Rattle.llb_commands.specs.MatchText.{IsOverLimit}
 use Rattle.llb_commands.specs.BoundedReading.{ReadsAll}
 use Rattle.llb_commands.specs.declared.bounded.ReadFault.{ReadFault}
 use Rattle.llb_commands.specs.declared.bounded.ReadFault.TheVariants.{TooLong, Failed, Unending}
@@ -155,6 +156,11 @@ tells_unread = tells_so IsRefused refuses_long
 pub tells_no_definition : (left left' : Option (List ℕ)) (r : Result (Vec ℕ Global) ReadFault) (e : ReadFault) (p : ProgramFault)
     → r ≡ Err e → p ≡ unread_as e → ReadsAll 67108864 134217728 left left' r → TellsRefusal IsUnread left p
 tells_no_definition = tells_so IsUnread (λ bytes long. inr (long, refl))
+
+-- it is too long
+pub tells_over_limit : (left left' : Option (List ℕ)) (r : Result (Vec ℕ Global) ReadFault) (e : ReadFault) (p : ProgramFault)
+    → r ≡ Err e → p ≡ unread_as e → ReadsAll 67108864 134217728 left left' r → TellsRefusal IsOverLimit left p
+tells_over_limit = tells_so IsOverLimit (λ bytes long. (long, refl))
 
 -- a reading without a fault returns all the bytes that were left
 pub all_read : (left left' : Option (List ℕ)) (r : Result (Vec ℕ Global) ReadFault) (bytes : Vec ℕ Global) → r ≡ Ok bytes

@@ -5,7 +5,7 @@ use Rattle.clap.specs.Words.{Text, fault_of, subcommand_of}
 use Rattle.llb_tree.specs.Tree.{TreeMap}
 use Rattle.llb_loader.specs.LocalSources.{Local}
 use Rattle.llb_session.specs.declared.session.Options.{Options}
-use Rattle.llb_commands.specs.ProgramOutput.{Runs, Draws, IsRefused}
+use Rattle.llb_commands.specs.ProgramOutput.{Runs, Draws}
 use Rattle.llb_commands.specs.Running.{TellsRefusal}
 use Rattle.llb_commands.specs.Faults.{Tells}
 use Rattle.llb_commands.specs.declared.fault.ProgramFault.{ProgramFault}
@@ -44,11 +44,11 @@ StepsAt files None options workers locals io status = IsNotAsked io status
 StepsAt files (Some file) options workers locals io status = Steps options workers locals (files file.now) io status
 
 -- How `show --matches` ends, with the bytes of the file of the older definition, if they are known. Either these are read, and it ends as `Matches` says. Or
--- the file could not be read, and the line that says why is written.
+-- the file could not be read, or is too long, and the line that says why is written.
 abbrev pub MatchesWith : Option (List ℕ) → Io → ℕ → Type 0
 MatchesWith file io status =
     ((old : List ℕ) × IfSome file (λ bytes. old ≡ bytes) × matching.Matches old io status)
-    ⊎ (IsKept io.output × ((e : ProgramFault) × TellsRefusal IsRefused file e × Tells io.errors.before io.errors.after e status))
+    ⊎ (IsKept io.output × ((e : ProgramFault) × TellsRefusal matching.IsOverLimit file e × Tells io.errors.before io.errors.after e status))
 
 -- How `show --agrees` ends on these trees of local sources, with the bytes of the file of the newer tree, if they are known. Either these are read as a tree,
 -- and it ends as `Agrees` says. Or the file can't be read as a tree, and the line that says why is written.

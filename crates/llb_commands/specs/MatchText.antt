@@ -1,15 +1,17 @@
 -- What `show --matches` prints for two definitions: for each vertex of the second the vertex of the first that it matches.
-use Rattle.std.specs.Prelude.{◌≡◌, ◌⊎◌, ℕ, List, ◌++◌, codes, Option, Some, None, slice_get}
+use Rattle.std.specs.Prelude.{◌≡◌, ◌⊎◌, ◌<◌, ℕ, List, ◌++◌, codes, length, Option, Some, None, slice_get}
 use Rattle.std.specs.List.{flat_map, enumerate_from}
 use Rattle.std.specs.Fmt.{decimal}
+use Rattle.llb_ops.specs.declared.fault.OpFault.TheVariants.{OverLimit}
 use Rattle.llb_loader.specs.declared.fault.LoadFault.{LoadFault}
+use Rattle.llb_loader.specs.declared.fault.LoadFault.TheVariants.{Definition}
 use Rattle.llb_loader.specs.declared.graph.Vertex.{Vertex}
 use Rattle.llb_loader.specs.Graph.{Numbered}
 use Rattle.llb_laws.specs.MatchingMarks.{LoadMatched}
 use Rattle.llb_laws.specs.Refusals.{IsRefusalOfTwo}
 use Rattle.llb_commands.specs.Assembly.{Ends}
 use Rattle.llb_commands.specs.CallStreams.{Io}
-use Rattle.llb_commands.specs.ProgramOutput.{IsRefused}
+use Rattle.llb_commands.specs.Sources.{limit}
 use Rattle.llb_commands.specs.declared.fault.ProgramFault.{ProgramFault}
 use Rattle.llb_commands.specs.declared.fault.ProgramFault.TheVariants as fault
 
@@ -43,9 +45,13 @@ pub record IsMatchText (old bytes text : List ℕ) : Type 0 where
   pub matched : LoadMatched old first bytes second partners
   pub same : text ≡ match_text first.vertices second.vertices partners
 
--- one of the two definitions is refused: the first or else the second by loading, or the second as it is read
+-- there are more bytes than the program reads, and the fault, 81 13, says so
+abbrev pub IsOverLimit : ProgramFault → List ℕ → Type 0
+IsOverLimit p bytes = (limit < length bytes) × (p ≡ fault.Refused (Definition OverLimit))
+
+-- one of the two definitions is refused: the first or else the second by loading; or the second is too long, so neither is loaded
 abbrev pub IsRefusedOfTwo : List ℕ → ProgramFault → List ℕ → Type 0
-IsRefusedOfTwo old p bytes = ((e : LoadFault) × IsRefusalOfTwo old bytes e × (p ≡ fault.Refused e)) ⊎ IsRefused p bytes
+IsRefusedOfTwo old p bytes = ((e : LoadFault) × IsRefusalOfTwo old bytes e × (p ≡ fault.Refused e)) ⊎ IsOverLimit p bytes
 
 -- How `show --matches` ends for a first definition that was read: it writes what the vertices of the second, which is its input, match.
 abbrev pub Matches : List ℕ → Io → ℕ → Type 0

@@ -10,10 +10,10 @@ ghost use Rattle.llb_commands.specs.MatchText.{
   match_line,
   match_text,
   IsMatchText,
+  IsOverLimit,
   IsRefusedOfTwo,
   Matches,
 };
-ghost use Rattle.llb_commands.specs.ProgramOutput.{IsRefused};
 ghost use Rattle.llb_commands.specs.Running.{IsRefusal, TellsRefusal};
 
 use crate::bounded::{LIMIT, READS, read_bounded};
@@ -118,7 +118,7 @@ fn matches_of(alloc: Global, old: &[u8], bytes: &[u8]) -> Result<String, Program
 /// Reads a definition to its end. Fails with 81 13 if it is too long, with 181 if a read fails or the bound on reads is met, and with 184 if memory is refused.
 pub(crate) fn definition_in<R: Read>(alloc: Global, input: &mut R) -> Result<Vec<u8>, ProgramFault>
     ensures read { IfOk result (λ b. IfSome (R.remaining input.old) (λ xs. b.items ≡ xs)) }
-    ensures refused { IfErr result (TellsRefusal IsRefused (R.remaining input.old)) }
+    ensures refused { IfErr result (TellsRefusal IsOverLimit (R.remaining input.old)) }
 {
     match read_bounded(alloc, input, LIMIT, READS) {
         Ok(bytes) => Ok(bytes),

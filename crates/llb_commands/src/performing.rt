@@ -2,7 +2,7 @@
 
 ghost use Rattle.std.specs.Prelude.{◌≡◌, map, IfOk, IfErr, IfSome};
 ghost use Rattle.llb_commands.specs.Commands.{AgreesWith, IsProgram, MatchesWith, Performs, ShowsAs};
-ghost use Rattle.llb_commands.specs.ProgramOutput.{IsRefused};
+ghost use Rattle.llb_commands.specs.MatchText.{IsOverLimit};
 ghost use Rattle.llb_commands.specs.Running.{Opens, TellsRefusal};
 
 use crate::agreement_text::agreements_over;
@@ -55,7 +55,7 @@ fn board_of<S: Sources>(
 // Reads the definition in a file to its end, and closes the file. Fails with 181 if the file can't be opened.
 fn old_in<S: Sources>(alloc: Global, sources: &S, file: &str) -> Result<Vec<u8>, ProgramFault>
     ensures read { IfOk result (λ b. IfSome (S.bytes sources.now file.now) (λ xs. b.items ≡ xs)) }
-    ensures refused { IfErr result (TellsRefusal IsRefused (S.bytes sources.now file.now)) }
+    ensures refused { IfErr result (TellsRefusal IsOverLimit (S.bytes sources.now file.now)) }
 {
     match sources.open(file) {
         Ok(mut definition) => definition_in(alloc, &mut definition),

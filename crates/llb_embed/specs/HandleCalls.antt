@@ -79,9 +79,9 @@ Assembled = EndsBy Assembles
 abbrev pub Disassembled : List ℕ → Held → Held → ℕ → Type 0
 Disassembled = EndsBy Disassembles
 
--- the line of the fault of a text as a script is written to the output; or the text is not UTF-8, and the messages say so
+-- the text is UTF-8, and the line of its fault as a script is written to the output; or it is not, and the messages say so
 abbrev pub Judged : List ℕ → Held → Held → ℕ → Type 0
-Judged text old new status = KeepsRest old new × (Judges text (written new.output.items) (written new.messages.items) status
+Judged text old new status = KeepsRest old new × ((IsUtf8 text × Judges text (written new.output.items) (written new.messages.items) status)
     ⊎ ((¬ (IsUtf8 text)) × (new.output.items ≡ []) × TellsWords (Some []) (Some new.messages.items) (Words None) status))
 
 -- ---- local trees

@@ -432,6 +432,13 @@ module _ (g h : Numbered) (graph : IsGraph g) (other : IsGraph h) (marks partner
         let reach = (pair v w related).reach in
         let found : get_or partners w 0 ≡ n = get_or_from_slice_get partners w n 0 is in
         omega (arith, reach, found);
+    upto = λ w n is.
+        let count = partnered.as_many in
+        let under = got_within partners w n is in
+        let y = get_within h.vertices w (omega (arith, under, count)) in
+        let found : get_or partners w 0 ≡ n = get_or_from_slice_get partners w n 0 is in
+        let most = (partnered.each w y.0 y.1).upto in
+        omega (arith, most, found);
     matched = λ ls ms some have v w is. let p = have v w is in inl (share_outcome law one two ls ms v w p.0 p.1);
     outcomes = share_outcome law one two;
   }

@@ -82,6 +82,7 @@ pub record LoadMatched (d : List ℕ) (g : Numbered) (e : List ℕ) (h : Numbere
   pub as_many : length partners ≡ length h.vertices
   pub partner : (v w : ℕ) → slice_get partners w ≡ Some v → v < length g.vertices → test v w ≡ true
   pub lowest : (v w n : ℕ) → slice_get partners w ≡ Some n → test v w ≡ true → n ≤ v
+  pub upto : (w n : ℕ) → slice_get partners w ≡ Some n → n ≤ length g.vertices
   pub matched : (ls ms : List Local) (some : ℕ → ℕ → Bool) → AreOfSameSources g h ls ms test some
       → IsMatched (record { graph = g; locals = ls }) (record { graph = h; locals = ms }) (By some)
   pub outcomes : (ls ms : List Local) (v w : ℕ) → test v w ≡ true → HaveSameSources g v ls ms ⊎ HaveSameSources h w ls ms

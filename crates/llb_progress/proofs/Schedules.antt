@@ -12,7 +12,9 @@ use Rattle.llb_model.specs.State.{Execution, WorkerStatus, Idle, Runs, State, is
 use Rattle.llb_model.specs.Table.{Reply, claim_grant, step_grant, settle_grant, cancel_grant, table}
 use Rattle.llb_model.specs.Run.{run, chosen}
 use Rattle.llb_model.specs.EventBounds.{still_to_come}
-use Rattle.llb_model.proofs.RunExtension.{run_more, run_on}
+use Rattle.llb_model.specs.WholeRunLaws.{AreChosen}
+use Rattle.llb_model.proofs.Lists.{inside}
+use Rattle.llb_model.proofs.RunExtension.{run_first, run_more, run_none, run_on}
 use Rattle.llb_model.proofs.RemainingEvents.{event_room}
 use Rattle.llb_model.proofs.ChosenEventRuns.{chosen_goes_on}
 use Rattle.llb_board.specs.BoardValue.{BoardValue, recorded}
@@ -24,7 +26,7 @@ use Rattle.llb_board.specs.declared.fault.WalkFault.TheVariants as walk
 use Rattle.llb_board.specs.declared.status.WorkerStatus.TheVariants as worker
 use Rattle.llb_board.proofs.UndoOfGrantedEvents.{granted}
 use Rattle.llb_progress.specs.Progress.{GoOnly, HasFewToCome, IsHeldUp, ReadyIsClaimedOrHeldUp, all_events, is_cancel}
-use Rattle.llb_progress.specs.Schedules.{Follows, GoesBy, after_schedule, done_by, taken}
+use Rattle.llb_progress.specs.Schedules.{Follows, GoesBy, GoesByChosen, after_schedule, done_by, taken}
 use Rattle.llb_progress.proofs.BoundedRuns.{cancel_none}
 
 -- ---- one event
@@ -173,3 +175,29 @@ pub nearer : (b c : BoardValue) (e : Event) → Follows b e c → chosen b.build
 nearer b c e next is =
     let near = event_room b.build b.state e (next.state, next.reply) (chosen_goes_on b.build b.state e is) next.granted in
     subst (λ (x : BoardValue). still_to_come x.build x.state < still_to_come b.build b.state) (sym next.is) (omega (arith, near))
+
+-- after chosen events, one more chosen event leaves all of them chosen
+chosen_more : (b : Build) (s t : State) (es : List Event) (rs : List Reply) (e : Event) → run b s es ≡ Some (t, rs) → AreChosen b s es
+    → chosen b t ≡ Some e → AreChosen b s (es ++ e ∷ [])
+chosen_more b s t [] rs e leads all next = (ap (chosen b) (run_none b s t rs leads).0 ∙ next, λ a given. tt)
+chosen_more b s t (x ∷ es) rs e leads all next =
+    let first = run_first b s x es t rs leads in (
+      all.0,
+      λ a given.
+          let same : first.a ≡ a = inside (sym first.given ∙ given) in
+          chosen_more b a.0 t es first.rest e (ap (λ (y : State × Reply). run b y.0 es) (sym same) ∙ first.goes_on) (all.1 a given) next,
+    )
+
+-- a board on which nothing was done
+pub chosen_nowhere : (b : BoardValue) → GoesByChosen b b
+unfolding goes_nowhere
+chosen_nowhere b = record { goes = goes_nowhere b; chosen = tt }
+
+-- one chosen event more
+pub chosen_further : (a b c : BoardValue) (e : Event) → GoesByChosen a b → chosen b.build b.state ≡ Some e → Follows b e c → GoesByChosen a c
+unfolding goes_further
+chosen_further a b c e before next follows = record {
+  goes = goes_further a b c e before.goes (chosen_goes b e next) follows;
+  chosen = chosen_more a.build a.state b.state before.goes.more before.goes.replies e before.goes.leads before.chosen
+      (ap (λ x. chosen x b.state) (sym before.goes.build) ∙ next);
+}

@@ -4,6 +4,7 @@ use Rattle.llb_events.specs.declared.event.Event.{Event}
 use Rattle.llb_model.specs.State.{Execution, Runs, State}
 use Rattle.llb_model.specs.Table.{Reply, table}
 use Rattle.llb_model.specs.Run.{run, is_complete}
+use Rattle.llb_model.specs.WholeRunLaws.{AreChosen}
 use Rattle.llb_board.specs.BoardValue.{BoardValue, after_event}
 use Rattle.llb_progress.specs.Progress.{GoOnly, is_cancel, next_by}
 
@@ -29,6 +30,11 @@ pub record GoesBy (old new : BoardValue) : Type 0 where
   pub leads : run old.build old.state more ≡ Some (new.state, replies)
   pub events : new.events ≡ old.events ++ more
 
+-- `new` is the board `old` after such events, each of which is the event that `chosen` of llb_model returns for the board before it
+pub record GoesByChosen (old new : BoardValue) : Type 0 where
+  pub goes : GoesBy old new
+  pub chosen : AreChosen old.build old.state goes.more
+
 -- the board after an event, given the table's answer to it: the board as it was if the event is refused
 abbrev pub done_by : BoardValue → Event → Option (State × Reply) → BoardValue
 done_by b e None = b
@@ -42,7 +48,7 @@ taken b e = if is_cancel e then b else done_by b e (table b.build b.state e)
 abbrev pub after_schedule : BoardValue → List Event → BoardValue
 after_schedule b es = fold taken b es
 
--- `new` is the board `old` after such events, and complete
+-- `new` is the board `old` after chosen events, and complete
 pub record EndsBy (old new : BoardValue) : Type 0 where
-  pub goes : GoesBy old new
+  pub goes : GoesByChosen old new
   pub complete : is_complete new.build new.state ≡ true

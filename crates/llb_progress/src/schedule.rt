@@ -9,7 +9,7 @@ ghost use Rattle.llb_model.specs.State.{Idle, is_ready, runs};
 ghost use Rattle.llb_model.specs.Table.{table};
 ghost use Rattle.llb_model.specs.WholeRunLaws.{HasNoCaches};
 ghost use Rattle.llb_progress.specs.Progress.{IsHeldUp, all_events, is_cancel};
-ghost use Rattle.llb_progress.specs.Schedules.{EndsBy, Follows, GoesBy, IsNextOf, after_schedule};
+ghost use Rattle.llb_progress.specs.Schedules.{EndsBy, Follows, GoesBy, GoesByChosen, IsNextOf, after_schedule};
 
 use crate::laws::{complete_boards_agree, ends_whatever_comes, never_stuck, ready_or_held_up};
 use llb_board::laws::{chosen_is_granted, chosen_until_complete};
@@ -103,7 +103,7 @@ fn go_by(board: &mut Board, schedule: &[Event]) -> Result<(), Memory>
 
 // Does the chosen events (`Board::chosen`) until the board is complete. Fails with 141 `Memory` alone, after some of them.
 fn go_to_end(board: &mut Board) -> Result<(), Memory>
-    ensures goes { GoesBy board.old board.new }
+    ensures goes { GoesByChosen board.old board.new }
     ensures complete { OnOk result (is_complete board.new.build board.new.state ≡ true) }
 {
     while let Some(event) = board.chosen() {
@@ -121,7 +121,7 @@ fn go_to_end(board: &mut Board) -> Result<(), Memory>
 /// The record grows by at most the events of all vertices. Fails with 141 `Memory` alone, after some of the events.
 pub fn run_by(board: &mut Board, schedule: &[Event]) -> Result<(), Memory>
     ensures goes { GoesBy board.old board.new }
-    ensures schedule { OnOk result (GoesBy (after_schedule board.old schedule.now) board.new) }
+    ensures schedule { OnOk result (GoesByChosen (after_schedule board.old schedule.now) board.new) }
     ensures few { length board.new.events ≤ length board.old.events + all_events board.old.build }
     ensures complete { OnOk result (is_complete board.new.build board.new.state ≡ true) }
 {

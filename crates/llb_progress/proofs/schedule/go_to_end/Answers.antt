@@ -1,9 +1,9 @@
 use Rattle.std.proofs.Common.{sym}
-use Rattle.llb_progress.proofs.Schedules.{goes_nowhere, goes_further, chosen_goes, nearer}
+use Rattle.llb_progress.proofs.Schedules.{chosen_nowhere, chosen_further, nearer}
 use Rattle.llb_progress.proofs.schedule.go_to_end.Goals as goal
 
 pub loop-event-init : goal.loop-event-init
-loop-event-init c = goes_nowhere c.args.board.now
+loop-event-init c = chosen_nowhere c.args.board.now
 
 pub loop-event-smaller : goal.loop-event-smaller
 loop-event-smaller c =
@@ -11,6 +11,5 @@ loop-event-smaller c =
 
 pub loop-event-preserved : goal.loop-event-preserved
 loop-event-preserved c =
-    let is = sym c.in-Some.ensures in
-    goes_further c.args.board.now c.loop-event.board c.go.new.board c.in-Some.event c.loop-event.invariant (chosen_goes c.loop-event.board c.in-Some.event is)
+    chosen_further c.args.board.now c.loop-event.board c.go.new.board c.in-Some.event c.loop-event.invariant (sym c.in-Some.ensures)
     (c.in_ok-go.ensures.granted c.if-not-branch.false)
