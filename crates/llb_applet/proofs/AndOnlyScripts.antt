@@ -23,7 +23,7 @@ and_joins w is = ap join_of ((bytes_decides w (codes "&&")).0 is)
 is_the_and : (w : List ℕ) (next : Join) → (not (is_separator w) || is_and w) ≡ true → join_of w ≡ Some next → is_and w ≡ true
 is_the_and w next only is = sym (ap (λ (o : Option Join). not (is_some o) || is_and w) is) ∙ only
 
--- and another word is not `&&`
+-- and a word that is no separator is not `&&`
 is_no_and : (w : List ℕ) → join_of w ≡ None → is_and w ≡ false
 is_no_and w is = by_test (is_and w) refl
   where
@@ -33,7 +33,7 @@ is_no_and w is = by_test (is_and w) refl
 
 -- ---- the words of the calls
 
--- parts, where the first has these words before it
+-- lists of words, the first of which now begins with these words
 abbrev with_begun : List (List ℕ) → List (List (List ℕ)) → List (List (List ℕ))
 with_begun call [] = call ∷ []
 with_begun call (part ∷ parts) = (call ++ part) ∷ parts
@@ -70,7 +70,7 @@ words_split (w ∷ ws) join call only =
     by_word None is one ends goes_on =
         goes_on ∙ sym (begun_word call w (slice_split is_and ws)) ∙ ap (with_begun call) (sym (slice_split-cons_no is_and w ws (is_no_and w is)))
 
--- ---- how the calls follow
+-- ---- the joins of the calls
 
 later_ands : (ws : List (List ℕ)) (call : List (List ℕ)) → only_ands ws ≡ true
     → list_all (λ (c : Call). follows_success c.join) (calls_from ws And call) ≡ true
@@ -102,7 +102,7 @@ first_then (w ∷ ws) call only =
         ap (λ (j : Join). list_all (λ (c : Call). follows_success c.join) (calls_from ws j [])) (sym same) ∙ later_ands ws [] rest
     by_word None is one goes_on rest = goes_on
 
--- the calls of such a text are what is between its `&&`, and each but the first is joined by And
+-- if `&&` is the only separator in a text, its calls are the lists of words between the words `&&`, and each but the first is joined by And
 pub splits_at_ands : (text : List ℕ) → only_ands (texts_of text) ≡ true → IsSplitAtAnds text
 splits_at_ands text only = record {
   calls = words_split (texts_of text) Then [] only ∙ begun_none (texts_of text);

@@ -40,24 +40,24 @@ some_other part is = ap (λ none. cond none [] (part ∷ [])) is
 
 -- ---- the calls of words
 
--- a separator is one of the three words
+-- a word is a separator if it has a join
 pub separates : (o : Option Join) → is_some o ≡ true → (next : Join) × (o ≡ Some next)
 separates (Some next) is = (next, refl)
 separates None is = absurd (false≢true is)
 
--- another word is no separator
+-- a word that is no separator has no join
 pub separates_not : (o : Option Join) → is_some o ≡ false → o ≡ None
 separates_not (Some next) is = absurd (false≢true (sym is))
 separates_not None is = refl
 
--- a separator ends the call
+-- a separator ends the current call
 at_separator : (join next : Join) (call : List (List ℕ)) (part : List ℕ) (rest : List (List ℕ)) → join_of part ≡ Some next
     → calls_from (some_word part ++ rest) join call ≡ call_by join call ∷ calls_from rest next []
 at_separator join next call part rest is =
     ap (λ ws. calls_from (ws ++ rest) join call) (some_separator part next is)
     ∙ ap (λ o. at_word join call part o (λ j c. calls_from rest j c)) is
 
--- another word is added to the call
+-- any other word is added to the current call
 pub at_other : (join : Join) (call : List (List ℕ)) (part : List ℕ) (rest : List (List ℕ)) → join_of part ≡ None → (length part == 0) ≡ false
     → calls_from (some_word part ++ rest) join call ≡ calls_from rest join (call ++ part ∷ [])
 at_other join call part rest is some =
@@ -68,7 +68,7 @@ at_other join call part rest is some =
 pub calls_in : (text : List ℕ) → calls_from (flat_map some_word (parts_of text)) Then [] ≡ calls_of text
 calls_in text = ap (λ ws. calls_from ws Then []) (sym (words_in 0 (parts_of text)))
 
--- ---- what is wrong with them
+-- ---- the first fault of the calls
 
 module _ {A B : Type 0} (f : A → Result B ScriptFault) where
   verdict_on : (r : Result A ScriptFault) (s : Result (Unit {0}) ScriptFault) → verdict r ≡ Ok tt → ((x : A) → verdict (f x) ≡ s) → verdict (r >>= f) ≡ s
@@ -87,7 +87,7 @@ verdict_more : (c : Joined) (r : Result (List Joined) ScriptFault) → verdict (
 verdict_more c (Ok cs) = refl
 verdict_more c (Err e) = refl
 
--- the join of the call at hand makes no difference to the first fault
+-- the join of the current call makes no difference to the first fault
 any_join : (join other : Join) (words : List (List ℕ)) (number : ℕ) (call : List (List ℕ))
     → verdict (commands_of number (calls_from words join call)) ≡ verdict (commands_of number (calls_from words other call))
 any_join join other words number call = on_words words call
@@ -115,14 +115,14 @@ module _ (number : ℕ) (call : List (List ℕ)) (part : List ℕ) (rest : List 
       >>= λ c. commands_of (number + 1) (calls_from rest next []) >>= λ cs. Ok (joined Then c ∷ cs))
   ended = ap (λ calls. verdict (commands_of number calls)) (at_separator Then next call part rest is)
 
-  -- a call that ends at a separator and is right leaves the verdict to the calls after it
+  -- if the separator ends a call that makes a command, the first fault is that of the calls after it
   judged_after : verdict (command_of number call) ≡ Ok tt → judged number call (some_word part ++ rest) ≡ judged (number + 1) [] rest
   judged_after right =
       ended
       ∙ verdict_on _ (command_of number call) _ right (λ c. verdict_more (joined Then c) _)
       ∙ any_join next Then rest (number + 1) []
 
-  -- and the fault of one that is wrong is the first fault of them all
+  -- if the separator ends a faulty call, the fault of this call is the first fault of all calls
   stopped_at : (e : ScriptFault) → Refuses e (verdict (command_of number call)) → Refuses e (judged number call (some_word part ++ rest))
   stopped_at e refuses = record {
     known = λ k. ended ∙ verdict_stops _ (command_of number call) e (refuses.known k);
@@ -130,14 +130,14 @@ module _ (number : ℕ) (call : List (List ℕ)) (part : List ℕ) (rest : List 
   }
 
 module _ (number : ℕ) (call : List (List ℕ)) (part : List ℕ) (rest : List (List ℕ)) (is : is_separator part ≡ true) where
-  -- the same where it is only known that the word is a separator
+  -- `judged_after` and `stopped_at`, given only that the word is a separator, and not which one
   pub judged_on : verdict (command_of number call) ≡ Ok tt → judged number call (some_word part ++ rest) ≡ judged (number + 1) [] rest
   judged_on right = let (next, names) = separates (join_of part) is in judged_after number call part rest next names right
 
   pub judged_stops : (e : ScriptFault) → Refuses e (verdict (command_of number call)) → Refuses e (judged number call (some_word part ++ rest))
   judged_stops e refuses = let (next, names) = separates (join_of part) is in stopped_at number call part rest next names e refuses
 
--- the last call alone is left
+-- where no words are left, only the current call remains to be checked
 pub judged_last : (number : ℕ) (call : List (List ℕ)) → judged number call [] ≡ verdict (command_of number call)
 judged_last number call = single (command_of number call)
   where
@@ -152,7 +152,7 @@ pub behind_none : (r : Result (List Joined) ScriptFault) → behind [] r ≡ r
 behind_none (Ok more) = refl
 behind_none (Err e) = refl
 
--- the last call alone is left
+-- where no words are left, the result is the commands so far and the command of the current call
 pub ahead_last : (reading : Reading) → ahead reading [] ≡ with_call reading
 ahead_last reading = single (command_of (length reading.commands.items) reading.words.items)
   where
@@ -175,7 +175,7 @@ module _ (number : ℕ) (call : List (List ℕ)) (rule : Result (Unit {0}) Scrip
   gives_last (Ok _) judges = sym is ∙ judged_last number call ∙ judges
   gives_last (Err e) judges = λ known. sym is ∙ judged_last number call ∙ judges.known known
 
-  -- and `Memory` comes last there too
+  -- where no word is left, the check of the last call fails with `Memory` only if the rule has no fault, or one that holds a text
   pub memory_last : (r : Result (Unit {0}) ScriptFault) → JudgesCall r number call → MemoryLast r rule
   memory_last (Ok _) judges = tt
   memory_last (Err e) judges = λ m. or_right (is_ok rule) (names_word rule) (ap names_word (sym is ∙ judged_last number call) ∙ judges.last m)

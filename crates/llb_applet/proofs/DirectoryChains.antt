@@ -39,14 +39,14 @@ made_ok t p new is =
 
 -- ---- a tree with another one at a path
 
--- one has what the other has at and below the path, whose paths there are short, and elsewhere what a third one has
+-- tree s has at and below path p what tree c has from its root down, and elsewhere what tree t has; the paths of c have at most n names
 record HasBelow (t : TreeMap) (p : List (List ℕ)) (n : ℕ) (s c : TreeMap) : Type 0 where
   inside : (q : List (List ℕ)) → finite.get s (p ++ q) ≡ finite.get c q
   outside : (q : List (List ℕ)) → is_within p q ≡ false → finite.get s q ≡ finite.get t q
   short : (q : List (List ℕ)) → is_some (finite.get c q) ≡ true → length q ≤ n
 
 module _ (t : TreeMap) (p : List (List ℕ)) (n : ℕ) where
-  -- a directory more, in both
+  -- `HasBelow` still holds after a directory is put at path x of tree c, and at path x below p of tree s
   with_more : (s c : TreeMap) (x : List (List ℕ)) → HasBelow t p n s c → length x ≤ n
       → HasBelow t p n (finite.insert s (p ++ x) (Dir new_dir_meta)) (finite.insert c x (Dir new_dir_meta))
   with_more s c x has le = record {
@@ -68,7 +68,7 @@ module _ (t : TreeMap) (p : List (List ℕ)) (n : ℕ) where
       within q false is there = has.short q there
       within q true is there = subst (λ y. length y ≤ n) (sym (same_path q x is)) le
 
-  -- at first there is one directory at the path, and in the other tree its root
+  -- `HasBelow` holds for tree t with one new directory at the free path p, and for the empty tree, which has only its root
   at_first : IsTree t → finite.get t p ≡ None → HasBelow t p n (finite.insert t p (Dir new_dir_meta)) empty_tree
   at_first tree none = record {
     inside = λ q. finite.get-insert path_cmp-IsTotalOrder t p (Dir new_dir_meta) (p ++ q)
@@ -86,7 +86,7 @@ module _ (t : TreeMap) (p : List (List ℕ)) (n : ℕ) where
       within q false is there = absurd (true≢false (sym there ∙ ap is_some (finite.get-empty path_cmp q)))
 
   module _ (to : walk (finite.get t) p ≡ Ok tt) where
-    -- what is made in one is made in the other
+    -- a directory that can be made at path x of tree c can be made at path x below p of tree s, and `HasBelow` holds for the two new trees
     one_made : (x : List (List ℕ)) (s c next : TreeMap) → length x ≤ n → HasBelow t p n s c → dir_at c x ≡ Ok next
         → (later : TreeMap) × (dir_at s (p ++ x) ≡ Ok later) × HasBelow t p n later next
     one_made x s c next le has = by_dir (is_dir (finite.get c x)) refl
@@ -166,7 +166,7 @@ module _ (t : TreeMap) (tree : IsTree t) (p ns : List (List ℕ)) (c new : TreeM
           by_answer (Err e) gives in' out s has done granted = λ other.
               let e : ◌≡◌ {A = Result TreeMap TreeFault} (Ok (with_tree t p c)) (Err e) = sym granted ∙ gives other in absurd cc
 
--- nothing is there
+-- where the test `is_some` of a value fails, there is no entry made of this value
 pub not_there : {X : Type 0} (f : X → Entry) (o : Option X) (e : Option Entry) (b : Bool) → b ≡ is_some o → b ≡ false → option_map f o ≡ e → e ≡ None
 not_there f None e b is without same = sym same
 not_there f (Some x) e b is without same = absurd (true≢false (sym is ∙ without))

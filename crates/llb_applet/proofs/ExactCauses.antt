@@ -96,7 +96,7 @@ edit_exact : (view : Mounts) (path : Names) (spot : Spot) (r : Result TreeMap Tr
 edit_exact view path spot (Ok t) = change_exact view spot.mount t
 edit_exact view path spot (Err f) = refl
 
--- what is put does not matter to whether it can be put
+-- the cause that the fault of one edit gives is exact for any other edit with this fault, so what is put does not matter
 alike_edit : (view : Mounts) (path : Names) (spot : Spot) (r s : Result TreeMap TreeFault) → fault_in r ≡ fault_in s
     → Exact (no_edit view path spot (fault_in r)) (with_change view spot.mount s)
 alike_edit view path spot r s same = ap (λ f. is_some (no_edit view path spot f)) same ∙ edit_exact view path spot s

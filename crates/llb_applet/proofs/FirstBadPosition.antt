@@ -5,7 +5,7 @@ use Rattle.std.specs.List.{slice_split, onto_first, position}
 use Rattle.std.specs.Option.{option_or}
 use Rattle.llb_applet.specs.Words.{Word, placed, is_word, is_word_byte, is_separator, bad_in, called_after, bad_place}
 
--- the element at hand, and what follows it
+-- the rest of a list from index i on is the element at i and then what follows it
 pub at_drop : {A : Type 0} (xs : List A) (i : ℕ) (x : A) → i < length xs → x ≡ get_or xs i x → drop i xs ≡ x ∷ drop (i + 1) xs
 at_drop xs i x inside is = rw add-one (drop-cons xs i x inside ∙ ap (λ y. y ∷ drop (suc i) xs) (sym is))
 
@@ -28,7 +28,7 @@ spread-split p (b ∷ text) = first (p b) (slice_split p text) (spread-split p t
     first true parts e = omega arith
     first false parts e = omega (arith, spread-onto b parts (length text) e)
 
--- the part at hand decides, or what follows it
+-- the first bad position is the one in the first part, if this part has one, and else the first in the parts after it
 pub at_part :
     (end : ℕ) (called : Bool) (at : ℕ) (part : List ℕ) (parts : List (List ℕ))
     → bad_place end called (filter is_word (placed at (part ∷ parts)))
@@ -45,7 +45,7 @@ at_part end called at (b ∷ bs) parts =
 pub bad_in-word : (called : Bool) (word : List ℕ) → is_separator word ≡ false → bad_in called word ≡ position (λ b. not (is_word_byte b)) word
 bad_in-word called word is = ap (λ b. if b then (if called then None else Some 0) else position (λ b. not (is_word_byte b)) word) is
 
--- a bad place in the part at hand is the first
+-- a bad position in the first part is the first bad position of all parts
 pub bad_here :
     (end : ℕ) (called : Bool) (at : ℕ) (part : List ℕ) (parts : List (List ℕ)) (bad : ℕ)
     → bad_in called part ≡ Some bad
@@ -53,7 +53,7 @@ pub bad_here :
 bad_here end called at part parts bad is = at_part end called at part parts
     ∙ ap (λ b. option_or (option_map (λ k. at + k) b) (bad_place end (called_after called part) (filter is_word (placed (at + length part + 1) parts)))) is
 
--- no bad place is at hand
+-- if the first part has no bad position, the first bad position is that of the parts after it
 pub bad_later :
     (end : ℕ) (called : Bool) (at : ℕ) (part : List ℕ) (parts : List (List ℕ))
     → bad_in called part ≡ None

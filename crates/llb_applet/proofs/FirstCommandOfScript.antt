@@ -45,12 +45,12 @@ begins_commands number (call ∷ calls) begins = by_command (command_of number c
     by_command (Ok c) = by_rest c (commands_of (number + 1) calls)
     by_command (Err e) = tt
 
--- the commands of a text
+-- the commands of a text begin with one that always runs
 begins_unless : (place : Option ℕ) (text : List ℕ) → BothBegin (commands_unless place text)
 begins_unless (Some place) text = tt
 begins_unless None text = begins_commands 0 (calls_of text) (begins_from (map (λ w. w.bytes) (words_of text)) Then [])
 
--- the commands of arguments
+-- the commands of arguments begin with one that always runs
 pub begins_script : (args : List (List ℕ)) → BothBegin (script_of args)
 begins_script args = by_shell (is_shell args)
   where

@@ -25,7 +25,7 @@ both false b e = absurd (false≢true e)
 
 -- ---- the calls of a text
 
--- if a word has no bad byte, words may have each of its bytes
+-- if no byte of a word is bad, words may contain each of its bytes
 all_bytes : (word : List ℕ) → position (λ b. not (is_word_byte b)) word ≡ None → list_all is_word_byte word ≡ true
 all_bytes word none = counted word (closed (nat_lt (position_or_len (λ b. not (is_word_byte b)) word) (length word)) _ none)
   where
@@ -57,12 +57,12 @@ all_push (c ∷ cs) w call word =
     let rest = all_push cs w halves.1 word in
     (λ i. halves.0 i && rest i)
 
--- a call has begun before the end
+-- if the text's end is no bad position, its last word belongs to a call
 begun : (called : Bool) (end : ℕ) → cond {A = Option ℕ} called None (Some end) ≡ None → called ≡ true
 begun true end none = refl
 begun false end none = absurd cc
 
--- the calls of words, where the call at hand has only plain words
+-- if words have no bad position, each of their calls is valid, given a current call that has only plain words
 calls_are : (end : ℕ) (ws : List Word) (join : Join) (call : List (List ℕ)) → list_all is_word ws ≡ true → list_all is_plain_word call ≡ true
     → bad_place end (not (length call == 0)) ws ≡ None → list_all is_call (calls_from (map (λ (w : Word). w.bytes) ws) join call) ≡ true
 calls_are end [] join call words plain none = let has = begun (not (length call == 0)) end none in (λ i. (has i && plain i) && true)
@@ -99,7 +99,7 @@ abbrev HasFirst : {A : Type 0} → List A → Type 0
 HasFirst [] = ⊥
 HasFirst (x ∷ xs) = Unit {0}
 
--- the separator of a word is the word
+-- the separator that is written for the join of a separator word is that word
 spelled : (w : List ℕ) (next : Join) → join_of w ≡ Some next → separator next ≡ w
 spelled w next = by_tests (spells (codes ";") w) (spells (codes "&&") w) (spells (codes "||") w) (bytes_decides w (codes ";")).0
     (bytes_decides w (codes "&&")).0 (bytes_decides w (codes "||")).0
@@ -187,7 +187,7 @@ join_parts (x ∷ y ∷ xs) some e =
     slice_split_at (λ b. b == 32) x 32 (join_with_byte 32 (y ∷ xs)) (none_of x halves.0) refl
     ∙ ap (λ r. x ∷ r) (join_parts (y ∷ xs) tt halves.1)
 
--- the places of words decide only where a place is bad, and not whether
+-- whether words have a bad position depends on their bytes alone; their positions decide only where it is
 none_again :
     (end last : ℕ) (called : Bool) (ws vs : List Word) → map (λ (w : Word). w.bytes) ws ≡ map (λ (w : Word). w.bytes) vs
     → bad_place end called ws ≡ None → bad_place last called vs ≡ None

@@ -34,19 +34,19 @@ refused_as n e (Err cause) f is = ap (λ x. Err x) (inside is)
     inside : {x y : ClaimFault} → ◌≡◌ {A = Result Reply ClaimFault} (Err x) (Err y) → x ≡ y
     inside e = cc
 
--- memory may be wanted of it where it may be of the table's answer
+-- where the table's result says that a claim may need memory, so does the result with the recorded board
 pub wants_as : (n : BoardValue) (e : Event) (r : Result Answer ClaimFault) → claim_may_want r ≡ true
     → claim_may_want (recorded n e r) ≡ true
 wants_as n e (Ok a) is = refl
 wants_as n e (Err cause) is = is
 
--- and where the table grants it
+-- a claim may need memory where the table grants it
 pub granted_wants : (n : BoardValue) (e : Event) (r : Result Answer ClaimFault) (q : Reply) → reply_of r ≡ Ok q
     → claim_may_want (recorded n e r) ≡ true
 granted_wants n e (Ok a) q is = refl
 granted_wants n e (Err cause) q is = absurd cc
 
--- room that was reserved and is given up again
+-- room that a claim reserved, and that is given up again, leaves the record's room as it was
 pub released : (v n : ℕ) (space : Space) → unclaimed v n (claimed v n space) ≡ space
 released v n space =
     let same : (a b : ℕ) → a + b - b ≡ a = λ a b. omega arith in

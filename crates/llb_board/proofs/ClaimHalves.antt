@@ -43,7 +43,7 @@ use Rattle.llb_model.proofs.ConstructorEqualities.{runs_inside}
 
 -- ---- refusals
 
--- a claim that can't begin is refused for that cause
+-- a claim that can't begin is refused for the cause that keeps it from beginning
 pub refused_start : (b : Build) (s : State) (w v : ℕ) (r : Result Start ClaimFault) (e : ClaimFault) → r ≡ Err e
     → reply_of (claimed b s w v r) ≡ Err e
 refused_start b s w v (Ok start) e is = absurd cc
@@ -62,7 +62,7 @@ refused_held b s w v x c e can same is =
     (sym (leased_as_held c s.workers can.trees x same) ∙ h.1)
     ∙ ap (λ f. Err f) (sym h.2)
 
--- memory may be wanted of a claim where it may be of the look at its keys
+-- a claim may need memory where the check of its keys may need memory
 pub wants_as : (b : Build) (s : State) (w v : ℕ) (x : Vertex) (c : CachesValue) → CanClaim b s w v x → HoldsAs c.out s.workers
     → claim_may_want (claim_grant b s w v) ≡ claim_may_want (unless_held (needs_of x) (first_held_key c.out (needs_of x)))
 wants_as b s w v x c can same =
@@ -153,7 +153,7 @@ module _ (vs : VerticesValue) (ws : WorkersValue) (out : Leases) (w v : ℕ) (x 
             can.inputs begins;
       })
 
--- what is returned, by whether it is what is begun or a fault
+-- the first half of a claim returns what is begun, or a fault
 module _ (vs : VerticesValue) (ws : WorkersValue) (out : Leases) (w v : ℕ) (x : Vertex) (can : CanClaim vs.build (state_in vs ws) w v x)
     (leased : Leased (record { rows = ws.rows; out = out }) ws.workers) (ns : List Need)
     (admitted : unless_held (needs_of x) (first_held_key out (needs_of x)) ≡ Ok ns) where
@@ -188,7 +188,7 @@ module _ (vs : VerticesValue) (ws : WorkersValue) (out : Leases) (w v : ℕ) (x 
       (worker_is vs ws out w v x can leased ns admitted g begins, vertex_is vs ws out w v x can leased ns admitted g begins)
   begin_at_them (Err e) begins = tt
 
--- ---- what was begun is started
+-- ---- the second half: what was begun is started with a lease
 
 idle_of : (S : List Status) (v : ℕ) (o : Option WorkerStatus) (x : Vertex) (start : Start) → claim_start S v o (Some x) ≡ Ok start → o ≡ Some Idle
 idle_of S v None x start is = absurd cc
@@ -217,7 +217,7 @@ module _ (vs : VerticesValue) (ds : List Seat) (c : CachesValue) (w v : ℕ) (g 
   pub few : leases c.out < 65536
   few = let few = few_leases c.out (map at_of ds) (map leased_by ds) crew.leased in omega (arith, few, crew.few)
 
-  -- with a lease the worker runs what was begun
+  -- where the lease is taken, the worker runs what was begun
   module _ (l : Option ℕ) (own : own.Execution) (new : CachesValue) (same : execution_of own ≡ g.execution) (supplies : supplies_of own ≡ g.supplies)
       (leases : lease_if c g.needs ≡ Ok (l, new)) where
     lease : Granted c on.vertex on.inputs l new

@@ -54,7 +54,7 @@ put_together w v p = record {
   needs = p.needs;
 }
 
--- each part is the rule's
+-- each part is what the rules say for vertex x, given the trees of its inputs and the instances that it wants
 pub record AreParts (b : Build) (x : Vertex) (ws : List Wanted) (trees : List TreeMap) (p : Parts) : Type 0 where
   pub view : workspace_on b.locals x x.op.kind trees ≡ p.view
   pub own : workspace_on b.locals x x.op.kind trees ≡ p.own
@@ -97,7 +97,7 @@ supplied b x ws trees p wanted are = λ i. record {
   keys = (ap (λ (t : Taking). map (λ (q : Instance). q.key) t.0) (sym are.taking) ∙ keys_found ws ∙ ap (λ (ns : List Need). map key_of ns) wanted) i;
 }
 
--- its micro-steps can be done
+-- the micro-steps of the vertex can be done on these parts
 pub workable : (b : Build) (x : Vertex) (ws : List Wanted) (trees : List TreeMap) (p : Parts) → map need_of ws ≡ needs_of x → AreParts b x ws trees p
     → length (program_of x).steps < 2 ^ 32 → IsWorkable p.outfit.program (work_with p.view p.trees)
 workable b x ws trees p wanted are few =

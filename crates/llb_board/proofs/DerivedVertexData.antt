@@ -79,12 +79,12 @@ ready_here b S l v tells low =
     let x = get_within b.graph.vertices v low in
     sym (ready_so b S l v x.0 tells x.1) ∙ ap (λ o. is_some (start_from S (slice_get S v) o)) (sym x.1)
 
--- a vertex was not done before and is not now, or both
+-- where a vertex is done neither before nor after, or both before and after, the links stay right
 pub linked_as : (vs : List Vertex) (T : List Status) (v : ℕ) (old new : Status) (l : Linked) → slice_get T v ≡ Some new
     → is_done (ending_of (Some old)) ≡ is_done (ending_of (Some new)) → IsLinked vs (done_in (slice_set T v old)) l → IsLinked vs (done_in T) l
 linked_as vs T v old new l at same so = linked_same vs (done_in (slice_set T v old)) (done_in T) l (test_set is_done T v new old at same) so
 
--- it is done now: the counts of its users are lowered
+-- where the vertex becomes done, the counts of its users are lowered
 pub linked_down : (vs : List Vertex) (T : List Status) (v : ℕ) (old new : Status) (l m : Linked) → slice_get T v ≡ Some new → v < length vs
     → is_done (ending_of (Some old)) ≡ false → is_done (ending_of (Some new)) ≡ true → m.users ≡ l.users → AreLowered (users_at l v) l.counts m.counts
     → IsLinked vs (done_in (slice_set T v old)) l → IsLinked vs (done_in T) m
@@ -92,7 +92,7 @@ linked_down vs T v old new l m at low was is users counts so =
     linked_lowered vs (done_in (slice_set T v old)) (done_in T) l m v low (done_here T v new old at ∙ was) (ap (λ o. is_done (ending_of o)) at ∙ is)
     (λ u apart. sym (others_done T v old u apart)) so users counts
 
--- it is not done any more: they are raised
+-- where the vertex is done no longer, the counts of its users are raised
 pub linked_up : (vs : List Vertex) (T : List Status) (v : ℕ) (old new : Status) (l m : Linked) → slice_get T v ≡ Some new → v < length vs
     → is_done (ending_of (Some old)) ≡ true → is_done (ending_of (Some new)) ≡ false → m.users ≡ l.users → AreRaised (users_at l v) l.counts m.counts
     → IsLinked vs (done_in (slice_set T v old)) l → IsLinked vs (done_in T) m
@@ -100,7 +100,7 @@ linked_up vs T v old new l m at low was is users counts so =
     linked_raised vs (done_in (slice_set T v old)) (done_in T) l m v low (done_here T v new old at ∙ was) (ap (λ o. is_done (ending_of o)) at ∙ is)
     (λ u apart. sym (others_done T v old u apart)) so users counts
 
--- the counts are those of the new statuses
+-- in each of these cases the counts are those of the new statuses
 linked_counted : (vs : List Vertex) (T : List Status) (v : ℕ) (old new : Status) (l m : Linked) → slice_get T v ≡ Some new → v < length vs
     → m.users ≡ l.users → AreCounted (is_done (ending_of (Some old))) (is_done (ending_of (Some new))) (users_at l v) l.counts m.counts
     → IsLinked vs (done_in (slice_set T v old)) l → IsLinked vs (done_in T) m
@@ -119,12 +119,12 @@ linked_counted vs T v old new l m at low users counts so =
 
 -- ---- the marks
 
--- a vertex has not failed before nor now
+-- where a vertex is failed neither before nor after, the marks stay as they are
 pub marks_as : (b : Build) (T : List Status) (v : ℕ) (old new : Status) → slice_get T v ≡ Some new → is_failed (ending_of (Some old)) ≡ false
     → is_failed (ending_of (Some new)) ≡ false → stopped b (slice_set T v old) ≡ stopped b T
 marks_as b T v old new at was is = marks_stay b.graph.vertices T v new old at is was
 
--- it fails now: the marks have spread from it
+-- where the vertex becomes failed, the marks that have spread from it are right
 pub marks_spread : (b : Build) (T : List Status) (v : ℕ) (old new : Status) (l : Linked) (marks marked : List Bool) → IsGraph b.graph
     → slice_get T v ≡ Some new → v < length b.graph.vertices → is_failed (ending_of (Some old)) ≡ false → is_failed (ending_of (Some new)) ≡ true
     → IsLinked b.graph.vertices (done_in (slice_set T v old)) l → marks ≡ stopped b (slice_set T v old) → Spreads l.users v marks marked
@@ -136,7 +136,7 @@ marks_spread b T v old new l marks marked graph at low was fails so are spreads 
 
 -- ---- what is over
 
--- a mark stays as it was made
+-- an item that was made before others is not changed by these others
 kept_mark : {A B : Type 0} (next : List B → A → B) (before : List B) (xs : List A) (k : ℕ) → k < length before → slice_get (by_number next before xs) k
     ≡ slice_get before k
 kept_mark next before [] k low = refl
@@ -216,7 +216,7 @@ over_not_ready b S v over = by_test (is_ready b S v) refl
         = (λ i. is_settled (waits i) || ((is_waiting (waits i) && is_stopped b S v) && not (is i))) ∙ and-false (is_stopped b S v) in
         absurd (cc (no, over))
 
--- and is settled or blocked
+-- a vertex that is over is settled or blocked
 pub over_ended : (b : Build) (S : List Status) (v : ℕ) → is_over b S v ≡ true → (is_settled (slice_get S v) || is_blocked b S v) ≡ true
 over_ended b S v over = by_tests (is_settled (slice_get S v)) (is_blocked b S v) (not (is_ready b S v)) over
   where

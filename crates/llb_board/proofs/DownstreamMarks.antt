@@ -16,7 +16,7 @@ only_one y x (suc k, lt, is) = absurd (omega (arith, lt))
 one_of : (x : ℕ) → Contains (x ∷ []) x
 one_of x = (0, omega arith, refl)
 
--- an item of a list that is seen by a view
+-- the item that is read at a place of a mapped list is the mapped item of the list
 pub got_mapped : {A B : Type 0} (f : A → B) (xs : List A) (n : ℕ) (x : A) (d : B) → n < length xs → x ≡ get_or xs n x → get_or (map f xs) n d ≡ f x
 got_mapped f [] n x d low is = absurd (omega (arith, low))
 got_mapped f (y ∷ ys) zero x d low is = ap f (sym is)
@@ -80,7 +80,7 @@ visits_none marks reached = record {
   count = omega arith;
 }
 
--- one that was marked
+-- a vertex that was marked already: a visit changes nothing
 pub visits_known : (marks : List Bool) (reached : List ℕ) (x : ℕ) → is_marked marks x ≡ true → Visits (x ∷ []) marks marks reached reached
 visits_known marks reached x is = record {
   same = refl;
@@ -93,7 +93,7 @@ visits_known marks reached x is = record {
   count = omega arith;
 }
 
--- one that was not
+-- a vertex that was not marked: a visit marks it, and it counts as reached
 pub visits_new : (marks : List Bool) (reached : List ℕ) (x : ℕ) → x < length marks → is_marked marks x ≡ false
     → Visits (x ∷ []) marks (set marks x true) reached (reached ++ x ∷ [])
 visits_new marks reached x low is = record {
@@ -107,7 +107,7 @@ visits_new marks reached x low is = record {
   count = unmarked_set marks x low is;
 }
 
--- and one more
+-- visits of some vertices, and then of one more
 pub visits_more : (us : List ℕ) (x : ℕ) (m0 m1 m2 : List Bool) (r0 r1 r2 : List ℕ) → Visits us m0 m1 r0 r1 → Visits (x ∷ []) m1 m2 r1 r2
     → Visits (us ++ x ∷ []) m0 m2 r0 r2
 visits_more us x m0 m1 m2 r0 r1 r2 a b = record {
@@ -127,9 +127,9 @@ visits_more us x m0 m1 m2 r0 r1 r2 a b = record {
   count = let one = a.count in let two = b.count in omega (arith, one, two, length-append a.more b.more);
 }
 
--- ---- and those after them
+-- ---- the vertices after those that were visited
 
--- the state of a loop that has visited the users of the first reached ones
+-- the state of a loop that has visited the users of the first i vertices that were reached
 pub record Spreading (users : List (List ℕ)) (v : ℕ) (old now : List Bool) (reached : List ℕ) (i : ℕ) : Type 0 where
   pub same : length now ≡ length old
   pub kept : (x : ℕ) → is_marked old x ≡ true → is_marked now x ≡ true

@@ -14,7 +14,7 @@ use Rattle.llb_execution.proofs.InputTrees.{edge_at}
 abbrev pub marked_at : List Bool → Edge → Bool
 marked_at before e = unwrap_or (slice_get before e.vertex) false
 
--- whether an edge leads to a marked vertex, as far as a loop has come
+-- a test for an edge to a marked vertex has the same result on the edges from the i-th on as on all edges
 abbrev pub AsBehind : List Bool → List Edge → ℕ → Type 0
 AsBehind before es i = list_any (marked_at before) (drop i es) ≡ list_any (marked_at before) es
 
@@ -69,7 +69,7 @@ pub marked_end : (statuses : List Status) (vs : List Vertex) (k : ℕ) (marks : 
 marked_end statuses vs k marks here past =
     sym (take_all k marks (omega (arith, here.lengths))) ∙ ap (by_number (next_stopped statuses) (take k marks)) (sym (drop_all k vs past)) ∙ here.marked
 
--- the marks hang on the failures alone
+-- the marks depend on nothing but which vertices have failed
 pub same_marks : (S T : List Status) → ((k : ℕ) → is_failed (ending_at S k) ≡ is_failed (ending_at T k)) → (before : List Bool) (vs : List Vertex)
     → by_number (next_stopped S) before vs ≡ by_number (next_stopped T) before vs
 same_marks S T same before [] = refl

@@ -109,7 +109,7 @@ pub places_alike : (c : CachesValue) (workers : List WorkerStatus) (inputs : Lis
     → places_taken c.out needs ≡ places_for (held workers) needs
 places_alike c workers inputs needs l = sym (taken_places c.out inputs needs) ∙ takes_alike c.out workers inputs needs l.same l.apart
 
--- what a lease of these instances leaves: it, where there are some
+-- after a lease of these instances is taken: a new lease is out with them; or, where there are no instances, no lease is taken
 abbrev pub LeasedNew : Leases → Option ℕ → List Instance → Leases → Type 0
 LeasedNew out l ps new = ((l ≡ Some (free_lease out)) × (new ≡ with_lease out (free_lease out) ps)) ⊎ ((l ≡ None) × (ps ≡ []) × (new ≡ out))
 

@@ -11,7 +11,7 @@ use Rattle.llb_model.proofs.Lists.{get_within, length_map}
 use Rattle.llb_board.proofs.Lists.{got_has}
 use Rattle.llb_model.proofs.BridgeOverwrites.{AreWithin}
 
--- what an instance that is there has is its tree
+-- the tree of an instance that is there is the one that the rows have at its number
 pub instance_there : (rows : List Row) (ps : List Instance) (k : ℕ) (p : Instance) (o : Option TreeMap) → AreWithin rows ps → slice_get ps k ≡ Some p
     → o ≡ slice_get (trees_of rows p.key) p.number → o ≡ slice_get (trees_at (store_of rows) ps) k
 instance_there rows ps k p o within at is =
@@ -20,10 +20,10 @@ instance_there rows ps k p o within at is =
     is ∙ got.1 ∙ ap (λ (t : TreeMap). Some t) (sym shown)
     ∙ sym (slice_get-map (tree_of (store_of rows)) ps k ∙ ap (option_map (tree_of (store_of rows))) at)
 
--- past the last instance there is none
+-- past the last instance there is no tree
 pub instance_past : (rows : List Row) (ps : List Instance) (k : ℕ) → slice_get ps k ≡ None → slice_get (trees_at (store_of rows) ps) k ≡ None
 instance_past rows ps k none = slice_get-map (tree_of (store_of rows)) ps k ∙ ap (option_map (tree_of (store_of rows))) none
 
--- as many trees as instances
+-- there are as many trees as instances
 pub as_many_trees : (rows : List Row) (ps : List Instance) → length (trees_at (store_of rows) ps) ≡ length ps
 as_many_trees rows ps = length_map (tree_of (store_of rows)) ps

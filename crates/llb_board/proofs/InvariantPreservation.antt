@@ -25,7 +25,7 @@ use Rattle.llb_board.specs.History.{Space}
 use Rattle.llb_board.proofs.RecordedRunStates.{consistent}
 use Rattle.llb_board.proofs.RecordRoomAndCancels.{SpaceAfter}
 
--- there is room for an event that is granted, where it takes its own
+-- the record has room for an event that is granted, together with the room that the event itself reserves
 pub has_room : (b : BoardValue) (ws : WorkersValue) (space : Space) (e : Event) (a : Answer) → (kept : IsBoard b ws space)
     → table b.build b.state e ≡ Some a → length b.events < space.room + room_taken b.build kept.replays.replies e
 has_room b ws space e a kept granted =
@@ -122,7 +122,7 @@ has_vertex b here v s at =
     let count = (consistent b here).count in
     get_within b.build.graph.vertices v (omega (arith, slice_get_within b.state.statuses v s at, count))
 
--- it has a count of cancels, at most one for each event
+-- a vertex with a status has a count of how often it was cancelled
 pub has_count : (b : BoardValue) (ws : WorkersValue) (space : Space) → IsBoard b ws space → (v : ℕ) (s : Status) → slice_get b.state.statuses v ≡ Some s
     → v < length space.cancels
 has_count b ws space kept v s at =
@@ -141,7 +141,7 @@ few_cancels b ws space kept v s at =
     let same = ap (λ cs. get_or cs v 0) kept.counted in
     omega (arith, same, cancels_few b.build v x.0 x.1 _ _ b.events kept.replays.replies kept.replays.leads)
 
--- a vertex that is not done is whole
+-- a vertex that waits is whole
 pub waits_whole : (o : Option Vertex) → IsWhole o Waiting
 waits_whole (Some x) = tt
 waits_whole None = tt

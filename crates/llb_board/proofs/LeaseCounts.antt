@@ -58,7 +58,7 @@ pub none_out : (out : Leases) (workers : List WorkerStatus) (ls : List (Option �
     → ((w : ℕ) (l : ℕ) → slice_get ls w ≡ Some (Some l) → ⊥) → leases out ≡ 0
 none_out out workers ls are idle = nothing_out out (λ l ps at. let w = are.whose l ps at in idle w.0 l w.1)
 
--- the number of a lease is in a list
+-- some place of the list has the lease with this number
 abbrev Stands : List (Option ℕ) → ℕ → Type 0
 Stands ls l = (w : ℕ) × (slice_get ls w ≡ Some (Some l))
 
@@ -66,7 +66,7 @@ stands_later : (o : Option ℕ) (ls : List (Option ℕ)) (l : ℕ) → o ≢ Som
 stands_later o ls l apart (zero, at) = absurd (apart (let same : o ≡ Some l = cc in same))
 stands_later o ls l apart (suc w, at) = (w, at)
 
--- where each has a place of its own in a list, there are no more
+-- if each lease that is out has its number in the list, no more leases are out than the list has places
 few_by : (ls : List (Option ℕ)) (out : Leases) → ((l : ℕ) (ps : List Instance) → cache.Has out l ps → Stands ls l) → leases out ≤ length ls
 few_by [] out whose = let none = nothing_out out (λ l ps at. let w = whose l ps at in cc (w.1)) in omega (arith, none)
 few_by (None ∷ ls) out whose =

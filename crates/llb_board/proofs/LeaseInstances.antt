@@ -56,7 +56,7 @@ leased_settled c ds w l leased at =
     by_lease None at = end_without c.out (map at_of ds) (map leased_by ds) w leased at
     by_lease (Some n) at = end_gives_back c.out (map at_of ds) (map leased_by ds) w n leased at
 
--- its lease is out
+-- the lease of a worker, if it has one, is out
 pub lease_out : (out : Leases) (workers : List WorkerStatus) (ls : List (Option ℕ)) (w : ℕ) (l : Option ℕ) → AreLeased out workers ls
     → slice_get ls w ≡ Some l → IsOutIf out l
 lease_out out workers ls w None leased at = tt
@@ -69,7 +69,7 @@ lease_out out workers ls w (Some l) leased at =
 
 -- ---- workers that were sent away one after another
 
--- the first n are idle
+-- the seats once the first n workers are sent away: these are idle, and the others are as they were
 abbrev pub idled : ℕ → List Seat → List Seat
 idled zero ds = ds
 idled (suc n) [] = []
@@ -108,13 +108,13 @@ pub leased_idle : (out : Leases) (n : ℕ) (ds : List Seat) → LeasedFrom out n
 leased_idle out n ds leased at =
     subst (λ (es : List Seat). AreLeased out (map at_of es) (map leased_by es)) (sym (ap (λ k. idled k ds) (add-one n) ∙ idled_same n ds at)) leased
 
--- the lease of the next is out
+-- the lease of the next worker, if it has one, is out
 pub out_next : (out : Leases) (n : ℕ) (l : Option ℕ) (x : own.Execution) (ds : List Seat) → LeasedFrom out n ds
     → slice_get ds n ≡ Some (seat.Runs l x) → IsOutIf out l
 out_next out n l x ds leased at =
     lease_out out (map at_of (idled n ds)) (map leased_by (idled n ds)) n l leased (get_map leased_by (idled n ds) n (seat.Runs l x) (idled_at n ds ∙ at))
 
--- all are idle then
+-- once all workers are sent away, none has a lease
 all_idle : (n : ℕ) (ds : List Seat) → length ds ≤ n → (w l : ℕ) → slice_get (map leased_by (idled n ds)) w ≡ Some (Some l) → ⊥
 all_idle n [] le w l at = go n at
   where

@@ -56,7 +56,7 @@ raised_more us x old now low so = (
   ],
 )
 
--- one more still fits
+-- a count that may be raised for `all` users in 32 bits can be raised once more while fewer are done
 pub raised_fits : (us : List ℕ) (x : ℕ) (old now : List ℕ) (all : ℕ) → x < length old → AreRaised us old now → get_or old x 0 + all < 2 ^ 32 → length us < all
     → get_or now x 0 + 1 < 2 ^ 32
 raised_fits us x old now all low so fits more = omega (arith, so.1 x low, times_few x us, fits, more)
@@ -97,7 +97,7 @@ entered_none v lists = record { same = refl; lists = λ u low. refl; counted = s
     none zero = refl
     none (suc n) = omega (arith, none n)
 
--- one edge more, which leads to a vertex whose list then is so
+-- one more edge is entered: v is appended to the list of the vertex to which it leads, unless an earlier edge led there
 pub entered_more : (es : List Edge) (e : Edge) (v : ℕ) (old now : List (List ℕ)) (count n : ℕ) (list : List ℕ) → e.vertex < length old
     → IsEntered es v old now count
     → (leads es e.vertex ≡ true → (list ≡ get_or now e.vertex []) × (n ≡ 0)) → (leads es e.vertex ≡ false → (list ≡ get_or now e.vertex [] ++ v ∷ []) × (n ≡ 1))

@@ -152,12 +152,12 @@ module _ (vs : List Vertex) (done : ℕ → Bool) (l : Linked) (so : IsLinked vs
   pub low_user : (v : ℕ) → v < length vs → v < length l.users
   low_user v low = omega (arith, low, so.same_users)
 
-  -- all that are listed have counts
+  -- each user that is listed for a vertex has a count
   pub users_counted : (v : ℕ) → v < length vs → All (λ x. x < length l.counts) (users_at l v)
   users_counted v low =
       subst (λ n. All (λ x. x < n) (users_at l v)) (sym so.same_counts) (subst (All (λ x. x < length vs)) (sym (so.users_are v low)) (users_low vs v))
 
-  -- and every list is of such
+  -- each user in any of the lists is a vertex of the graph
   pub all_counted : All (λ us. All (λ x. x < length vs) us) l.users
   all_counted =
       All-from_get_or (λ us. All (λ x. x < length vs) us) l.users []
@@ -195,7 +195,7 @@ led_edge edges u led p is =
     as_some (e ∷ es) (inl h) = inl (subst (λ z. p z ≡ true) (sym (eqb-true e.vertex u h)) is)
     as_some (e ∷ es) (inr h) = inr (as_some es h)
 
--- each edge leads to where an edge leads
+-- a fact that holds of each edge holds together with this one: the vertex to which the edge leads is one to which some edge leads
 each_led : (P : Edge → Type 0) (all es : List Edge) → ((u : ℕ) → leads es u ≡ true → leads all u ≡ true) → Each_of P es
     → Each_of (λ (e : Edge). P e × (leads all e.vertex ≡ true)) es
 each_led P all [] sub each = tt
@@ -242,7 +242,7 @@ module _ (b : Build) (graph : IsGraph b.graph) (l : Linked) (done : ℕ → Bool
         first_of [] lt = absurd (omega (arith, lt))
         first_of (x ∷ xs) lt = x
 
-    -- what was stopped is so still
+    -- each vertex below n that was stopped before the change is still stopped after it
     Still : ℕ → Type 0
     Still n = (k : ℕ) → k < n → is_stopped b S k ≡ true → is_stopped b T k ≡ true
 

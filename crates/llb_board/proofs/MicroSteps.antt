@@ -48,7 +48,7 @@ module _ (b : Build) (rows : List Row) (x : Execution) (m : MicroStep) (clean : 
       ap (written_by rows x.places) (skip_to (program_in b x).steps x held m clean at skips)
       ∙ ap (λ (rs : List Row). Ok (record x { done = x.done + 1 }, rs, HasStepped (did.Skipped x.done))) (put_each_same rows x.places within)
 
-  -- else the execution, the lists of instances and the reply are as what it leaves says
+  -- a micro-step that is done: the execution, the lists of instances and the reply are as its result `left` says
   pub stepped_by : (ts : List TreeMap) (left : Left) (r : Reply) (after : List Row) (ps : List Instance) → ts ≡ held
       → left ≡ step_on x.done (Some m) (work_with x.own ts) → r ≡ step_reply x.done m x.own left → after ≡ put_each rows ps left.work.trees
       → ps ≡ x.places → worked_in b rows x ≡ Ok (with_step x left, after, r)
@@ -91,7 +91,7 @@ module _ (b : Build) (x : own.Execution) (supplies : supplies_of x ≡ supplies_
       subst (λ (n : ℕ). All (λ m. m < n) (shown_in x.view)) (sym (ap (λ (s : Supplies). s.mounts) supplies))
       (subst (λ (ms : List ℕ). All (λ m. m < length (mounts_at vertex)) ms) (sym (ap (λ (s : Supplies). s.shown) supplies)) (within_at vertex))
 
-  -- an instance for each of them
+  -- the execution has an instance for each mount that shows a cache
   pub places_shown : length x.places.items ≡ length (shown_in x.view)
   places_shown =
       sym (length_map (λ (p : Instance). p.key) x.places.items) ∙ ap (λ (s : Supplies). length s.keys) supplies

@@ -199,7 +199,7 @@ places_set ds w old l x at =
     ap (λ ws. places_at (slice_get ws w)) (map_set at_of ds w (seat.Runs l x))
     ∙ ap places_at (get_set_same (map at_of ds) w (Runs (execution_of x)) (at_of old) (get_map at_of ds w old at))
 
--- the lease stays
+-- each worker has the same lease after a micro-step as before it
 pub leased_stepped : (out out' : Leases) (ds : List Seat) (w : ℕ) (l : Option ℕ) (x y : own.Execution)
     → AreLeased out (map at_of ds) (map leased_by ds) → slice_get ds w ≡ Some (seat.Runs l x)
     → out' ≡ out → y.places ≡ x.places → AreLeased out' (map at_of (slice_set ds w (seat.Runs l y))) (map leased_by (slice_set ds w (seat.Runs l y)))

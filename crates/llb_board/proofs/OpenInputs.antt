@@ -1,4 +1,4 @@
--- Laws of links, for whoever rests on them: who the users of a vertex are, what a vertex that is done changes, and when a count is 0.
+-- Laws of links, for the proofs that use them: who the users of a vertex are, what changes when a vertex is done, and when a count is 0.
 use Rattle.std.proofs.Common.{◌≡◌, ◌≢◌, ℕ, zero, suc, ◌+◌, ◌<◌, ◌≤◌, Bool, true, false, List, [], ◌∷◌, length, get_or, refl, sym, ap, subst, ◌∙◌, arith}
 use Rattle.std.proofs.Common.{inl, inr}
 use Rattle.std.specs.Prelude.{All, Some, slice_get, if◌then◌else◌, ◌||◌, ◌&&◌, ◌==◌, not}
@@ -38,7 +38,7 @@ pub count_same : (p q : ℕ → Bool) (n : ℕ) → ((u : ℕ) → u < n → p u
 count_same p q zero same = refl
 count_same p q (suc n) same = λ i. (if same n (omega arith) i then 1 else 0) + count_same p q n (λ u low. same u (omega (arith, low))) i
 
--- one number more passes
+-- if the second test passes the number u, which the first does not, and else both pass the same numbers, its count is greater by one
 pub count_one : (p q : ℕ → Bool) (n u : ℕ) → u < n → p u ≡ false → q u ≡ true → ((w : ℕ) → w ≢ u → p w ≡ q w) → count_below q n ≡ 1 + count_below p n
 count_one p q zero u low out passes same = absurd (omega (arith, low))
 count_one p q (suc n) u low out passes same = elim (cases_eq u n) [

@@ -78,7 +78,7 @@ unstepped ds new out w saved ts behind leased is =
           (leased_stepped out out ds w l x y leased at refl refl);
     }
 
--- ---- what is left
+-- ---- seats and caches after what was displaced is put back
 
 -- what an event displaced can be put back
 abbrev pub Can : List Seat → CachesValue → Back → Type 0
@@ -87,7 +87,7 @@ Can ds c k = CanPutBack (record { back = k }) (seen_of ds c.rows)
 pub can_by : (ds : List Seat) (c : CachesValue) (k j : undo.Back) → k ≡ j → Can ds c (back_in k) → Can ds c (back_in j)
 can_by ds c k j is can = subst (λ (i : undo.Back). Can ds c (back_in i)) is can
 
--- seats and caches that what an event displaced is put back into
+-- the seats and caches after what an event displaced is put back
 pub record PutsBack (ds : List Seat) (c : CachesValue) (k : Back) (new : List Seat) (d : CachesValue) : Type 0 where
   pub workers : map at_of new ≡ workers_before k (map at_of ds)
   pub made : map ready_made new ≡ supplies_before k (map ready_made ds)
@@ -162,7 +162,7 @@ module _ (ds : List Seat) (c : CachesValue) (crew : Crew ds c.out) where
     lent_is [] room k is = absurd cc
     lent_is (p ∷ ps) room k is = ap (λ o. unwrap_or o k) is
 
-    -- the lease that is ready can be put out
+    -- the lease that was prepared, if there is one, can be taken
     pub lends : ForSome lent (CanLend c)
     lends k is =
         let workers = map at_of ds in
@@ -170,12 +170,12 @@ module _ (ds : List Seat) (c : CachesValue) (crew : Crew ds c.out) where
         (can_lend c.rows c.out workers (map leased_by ds) w (execution_of x) (length workers + 1) can.there can.once can.behind.idle crew.leased
         (keys_apart x.places.items can.behind.keys) crew.few (omega arith))
 
-    -- what it is put out as
+    -- after the prepared lease of these instances is taken, it is out under a new number, or there are no instances and no lease
     lent_new : (ps : List Instance) (room : ℕ) (l : Option ℕ) (d : CachesValue) → (l, d) ≡ lent_if c (lent_of ps room) → LeasedNew c.out l ps d.out
     lent_new [] room l d is = inr (ap (λ (p : Option ℕ × CachesValue). p.0) is, refl, ap (λ (p : Option ℕ × CachesValue). p.1.out) is)
     lent_new (p ∷ ps) room l d is = inl (ap (λ (p : Option ℕ × CachesValue). p.0) is, ap (λ (p : Option ℕ × CachesValue). p.1.out) is)
 
-    -- it changes no row
+    -- taking the prepared lease changes no row
     lent_rows : (o : Option LentValue) (l : Option ℕ) (d : CachesValue) → (l, d) ≡ lent_if c o → d.rows ≡ c.rows
     lent_rows None l d is = ap (λ (p : Option ℕ × CachesValue). p.1.rows) is
     lent_rows (Some k) l d is = ap (λ (p : Option ℕ × CachesValue). p.1.rows) is

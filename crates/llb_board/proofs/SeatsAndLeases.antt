@@ -58,9 +58,9 @@ whole_end o view fault s is = subst (IsWhole o) (sym is) (by_fault o fault)
     by_fault (Some x) (Some f) = tt
     by_fault (Some x) None = ended_count (program_at (Some x)) view None (outputs_of (program_at (Some x)) view) refl
 
--- ---- workers that are made
+-- ---- new workers
 
--- all idle, on caches of which no lease is out
+-- new workers are all idle, on caches of which no lease is out
 
 pub crew_open : (ds : List Seat) (n : ℕ) (out : Leases) → ds ≡ replicate n seat.Idle → 0 < n → n ≤ 64 → leases out ≡ 0 → Crew ds out
 crew_open ds n out is some few free =
@@ -74,7 +74,7 @@ crew_open ds n out is some few free =
           (subst (λ (ws : List WorkerStatus). AreLeased out ws (replicate n None)) (sym workers) (none_leased out n free));
     }
 
--- others that do the same, with the same leases
+-- other seats, whose workers do the same and have the same leases
 pub crew_alike : (ds es : List Seat) (out new : Leases) → map at_of es ≡ map at_of ds → map leased_by es ≡ map leased_by ds → new ≡ out
     → Crew ds out → Crew es new
 crew_alike ds es out new workers leased same crew =

@@ -65,7 +65,7 @@ not_true : (b : Bool) → not b ≡ true → b ≡ false
 not_true true e = absurd (false≢true e)
 not_true false e = refl
 
--- what is skipped says so
+-- the reply to a micro-step that is skipped says that it is skipped
 pub skip_reply : (k : ℕ) (m : MicroStep) (before : Workspace) (left : Left) → is_skipped m before ≡ true
     → HasStepped (did.Skipped k) ≡ table.step_reply k m before left
 skip_reply k ReadLocal before left skips = absurd (false≢true skips)

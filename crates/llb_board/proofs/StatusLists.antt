@@ -1,4 +1,4 @@
--- A list of statuses is that of one list of states.
+-- The list of statuses that a list of states makes.
 use Rattle.std.proofs.Common.{◌≡◌, ℕ, zero, suc, List, [], ◌∷◌, map, refl, sym, ap, ◌∙◌}
 use Rattle.std.specs.Prelude.{replicate}
 use Rattle.llb_model.specs.Outcome.{Done, Failed}
@@ -26,7 +26,7 @@ stages_again (s ∷ ss) = λ i. stage_again s i ∷ stages_again ss i
 pub same_stages : (ss ts : List Stage) → map status_of ss ≡ map status_of ts → ss ≡ ts
 same_stages ss ts same = sym (stages_again ss) ∙ ap (map stage_of) same ∙ stages_again ts
 
--- where all wait
+-- if all states are Waiting, so are all statuses
 pub all_wait : (n : ℕ) → map status_of (replicate n stage.Waiting) ≡ replicate n Waiting
 all_wait zero = refl
 all_wait (suc n) = ap (λ l. Waiting ∷ l) (all_wait n)

@@ -74,7 +74,7 @@ finished_at : Build → Seat → Bool
 finished_at b seat.Idle = false
 finished_at b (seat.Runs l x) = is_finished (program_in b (execution_of x)).steps (execution_of x)
 
--- how the worker's execution ends: x is what was looked at, and y what was taken
+-- the status with which a worker's execution ends: x is the execution as it was checked, and y the same one as it was taken from its seat
 pub leaves : (b : Build) (ds : List Seat) (w : ℕ) (l k : Option ℕ) (x y : own.Execution) (o : Option Vertex) (stands : Status)
     → slice_get ds w ≡ Some (seat.Runs l x) → slice_get ds w ≡ Some (seat.Runs k y)
     → is_finished (program_in b (execution_of x)).steps (execution_of x) ≡ true → o ≡ slice_get b.graph.vertices y.vertex

@@ -88,7 +88,7 @@ module _ (vs : VerticesValue) (ds : List Seat) (rows : List Row) (out : Leases) 
   whole : step_in vs (seen_of ds rows) w ≡ granted_in vs.statuses (map at_of ds) w (worked_in vs.build rows (execution_of x))
   whole = stepped_in vs.build vs.statuses (map at_of ds) rows w (execution_of x) runs within
 
-  -- after it the worker's seat is set, and the rows are these
+  -- a step whose result is execution y and the rows `after`: the worker's seat has y, and the rows are these
   pub step_gives : (r : Result Stepped StepFault) (y : own.Execution) (after : List Row)
       → GivesStep (λ s. (execution_of y, after, HasStepped s)) r (worked_in vs.build rows (execution_of x))
       → GivesStep (λ s. (state_in vs (seen_of (slice_set ds w (seat.Runs l y)) after), HasStepped s)) r (step_in vs (seen_of ds rows) w)

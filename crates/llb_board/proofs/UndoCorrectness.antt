@@ -124,13 +124,13 @@ unchanged (Unclaim w u gs) statuses is = absurd cc
 unchanged (Unstep w saved ts) statuses is = refl
 unchanged (Resume e w left lent) statuses is = absurd cc
 
--- that status has no trees
+-- the status that a vertex gets back has no trees
 pub change_whole : (k : Back) (o : Option Vertex) (v : ℕ) (s : Status) → Some (v, s) ≡ change_in k → IsWhole o s
 change_whole (Unclaim w u gs) o v s is = subst (IsWhole o) (change_inside (sym is)).1 (waits_whole o)
 change_whole (Unstep w saved ts) o v s is = absurd cc
 change_whole (Resume e w left lent) o v s is = subst (IsWhole o) (change_inside (sym is)).1 (runs_whole o w)
 
--- and it is that of a vertex
+-- the vertex that gets a former status back is a vertex of the graph
 pub change_low : (b : BoardValue) (k : Back) (v : ℕ) (s : Status) → CanUndo (record { back = k }) b → Some (v, s) ≡ change_in k
     → v < length b.state.statuses
 change_low b (Unclaim w u gs) v s can is =
@@ -146,7 +146,7 @@ change_low b (Resume e w left lent) v s can is =
     let count = length_set b.state.statuses left.execution.vertex (Running w) in
     subst (λ n. n < length b.state.statuses) same (omega (arith, low, count))
 
--- ---- what is left
+-- ---- the statuses and the workers after an undo
 
 pub as_many : (k : Back) (workers : List WorkerStatus) → length (workers_before k workers) ≡ length workers
 as_many (Unclaim w v gs) workers = length_set workers w Idle
@@ -160,7 +160,7 @@ pub record Leaves (vs : VerticesValue) (ws us : WorkersValue) (old : List Status
   pub rows : us.rows ≡ rows_before u.back ws.workers ws.rows
   pub supplies : us.supplies ≡ supplies_before u.back ws.supplies
 
--- it is seen as the board that `undone` gives
+-- a board after an undo is seen as the board that `undone` defines
 pub undone_is : (vs : VerticesValue) (first : List Row) (ws us : WorkersValue) (es : List Event) (old : List Status) (u : Displaced) → Leaves vs ws us old u
     → seen (record vs { statuses = old }) first us (front es) ≡ undone u (seen vs first ws es)
 undone_is vs first ws us es old u leaves =
@@ -258,7 +258,7 @@ space_changed b space (Resume end.Cancel w left lent) v n s here ends can is cou
     (space_uncancelled b.build w x.vertex x.done y.0 ends.replies space y.1
     (subst (λ r. space.cancels ≡ cancel_counts b.build (ends.replies ++ r ∷ [])) reply ends.counted)))
 
--- and where none has
+-- the room and the counts before the event, where no vertex has another status than before
 pub space_unchanged : (b : BoardValue) (space : Space) (k : Back) (v n : ℕ) → (ends : EndsWith b space (record { back = k }))
     → CanUndo (record { back = k }) b
     → None ≡ change_in k

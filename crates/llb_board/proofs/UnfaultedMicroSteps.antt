@@ -13,7 +13,7 @@ past_none [] k past = refl
 past_none (x ∷ xs) zero past = absurd (omega arith)
 past_none (x ∷ xs) (suc k) past = past_none xs k (omega arith)
 
--- the next one is the one at that place, where there is one
+-- the micro-step at a number is the one in the list at that place; where the list has no such place, there is none
 next_at : (steps : List MicroStep) (k : ℕ) → (if nat_le (length steps) k then None else slice_get steps k) ≡ slice_get steps k
 next_at steps k = elim (cases_lt k (length steps)) [
   | inl lt ↦ ap (λ (b : Bool). if b then None else slice_get steps k) (not_le lt)

@@ -4,7 +4,7 @@ use Rattle.std.specs.Prelude.{Bool, true, false, ◌&&◌, Some, if◌then◌els
 use Rattle.std.proofs.lemmas.Bool.{cases_order}
 use Rattle.llb_model.specs.Run.{least, each}
 
--- one number more
+-- as many numbers are left from v on as from v + 1 on, and one more
 less : (n v : ℕ) → v < n → n - v ≡ suc (n - (v + 1))
 less n v low = omega arith
 
@@ -51,7 +51,7 @@ each_end p n k past here =
     let none_left : n - suc k ≡ 0 = omega (arith, past) in
     ap (each p (suc k)) none_left ∙ sym (ap (each p k) no) ∙ here
 
--- and one that begins after numbers that all pass
+-- a test of all numbers that begins after numbers that all pass has the result of one that begins at 0
 pub each_from : (p : ℕ → Bool) (n k : ℕ) → ((v : ℕ) → v < k → p v ≡ true) → each p k (n - k) ≡ each p 0 n
 each_from p n zero all = ap (each p 0) (omega arith)
 each_from p n (suc k) all =

@@ -26,13 +26,13 @@ runs_at b None v d f is = absurd cc
 runs_at b (Some Idle) v d f is = absurd cc
 runs_at b (Some (Runs x)) v d f is = (x, refl, ap (finished_in f) (inside_some is))
 
--- one that is seen to be idle is idle
+-- a worker that is seen to be idle is idle
 pub idle_at : (b : Build) (o : Option WorkerStatus) → option_map (look_of b) o ≡ Some at.Idle → o ≡ Some Idle
 idle_at b None is = absurd cc
 idle_at b (Some Idle) is = refl
 idle_at b (Some (Runs x)) is = absurd cc
 
--- and one that is not seen is not there
+-- a worker that is not seen is not there
 pub none_at : (b : Build) (o : Option WorkerStatus) → option_map (look_of b) o ≡ None → o ≡ None
 none_at b None is = refl
 none_at b (Some a) is = absurd cc

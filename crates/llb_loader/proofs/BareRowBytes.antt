@@ -36,13 +36,13 @@ row_with (r ∷ rows) [] k e = absurd (omega (arith, e))
 row_with (r ∷ rows) (b ∷ es) zero e = refl
 row_with (r ∷ rows) (b ∷ es) (suc k) e = row_with rows es k (omega (arith, e))
 
--- there are as many
+-- there are as many rows with their bytes as bare rows
 pub with_len : (rows : List Row) (es : List (List ℕ)) → length es ≡ length rows → length (with_bytes rows es) ≡ length rows
 with_len [] es e = refl
 with_len (r ∷ rows) [] e = absurd (omega (arith, e))
 with_len (r ∷ rows) (b ∷ es) e = let h = with_len rows es (omega (arith, e)) in omega (arith, h)
 
--- they have the same digest texts
+-- rows with their bytes have the digest texts of the bare rows
 pub with_digest : (rows : List Row) (es : List (List ℕ)) (k : ℕ) → length es ≡ length rows → (row_at rows k).digest ≡ (row_at (with_bytes rows es) k).digest
 with_digest rows es k e = sym (ap (λ (r : Row). r.digest) (row_with rows es k e))
 
@@ -75,7 +75,7 @@ bytes_len rows = length-map rows (λ (r : Row). r.bytes)
 pub titles_len : (es : List (List ℕ)) → length (titles_from es) ≡ length es
 titles_len es = length-map es (λ (bytes : List ℕ). let r : Row = record { digest = digest_text bytes; bytes = [] } in r)
 
--- ---- what is read of entries is read of the rows
+-- ---- what is read off entries is read off the rows
 
 pub ops_with : (rows : List Row) (es : List (List ℕ)) (ops : List Op) → length es ≡ length rows → AreRead es ops → AreOps (with_bytes rows es) ops
 ops_with rows es ops e read = record {
@@ -151,7 +151,7 @@ module _ (B R : List Row) (len : length B ≡ length R) (same : (k : ℕ) → (r
   links_same t ops = map_same (rows_named B t) (rows_named R t) (λ op. filter_map_same (λ (i : Input). row_named B t i.digest)
       (λ (i : Input). row_named R t i.digest) (λ i. named_same t i.digest) op.inputs) ops
 
-  -- bare rows are apart if those are whose digest texts they have
+  -- bare rows are apart if the rows whose digest texts they have are apart
   pub bare_apart : AreBare B → IsApart R → IsApart B
   bare_apart bare apart = record {
     several = λ all. apart.several (λ k h. equal_to_first R apart.apart k h
@@ -197,7 +197,7 @@ module _ (rows : List Row) (es : List (List ℕ)) (e : length es ≡ length rows
   pub entry_with : (k : ℕ) → row_at (with_bytes rows es) k ≡ row_at (with_bytes rows es) 0 → get_or es k [] ≡ get_or es 0 []
   entry_with k p = sym (bytes_at k) ∙ ap (λ (r : Row). r.bytes) p ∙ bytes_at 0
 
--- what was there before a key was given another value and then its own again
+-- a look-up is as it was before, once a key is given another value and then its former value again
 pub put_back : (look second third : List ℕ → Option ℕ) (key : List ℕ) (n m : ℕ) → look key ≡ Some m
     → ((d : List ℕ) → second d ≡ update bytes_eq look key (Some n) d) → ((d : List ℕ) → third d ≡ update bytes_eq second key (Some m) d)
     → (d : List ℕ) → third d ≡ look d
@@ -229,7 +229,7 @@ pub taken_step : (first es : List (List ℕ)) (n : ℕ) (moved : List ℕ) → (
     → (i : ℕ) → n + 1 ≤ i → get_or (set es n moved) i [] ≡ get_or first i []
 taken_step first es n moved kept i l = get_or-set_other es n i moved [] (λ e. omega (arith, e, l)) ∙ kept i (omega (arith, l))
 
--- what is told of an entry that cannot be read, unless memory was refused
+-- the fault of an entry that can't be read, unless memory was refused
 pub entry_fault : (k : ℕ) (f : OpFault) → is_memory (row_fault k f) ≡ false → (row_fault k f ≡ fault.Entry k f) × (ops.is_memory f ≡ false)
 entry_fault k (op.Wire w) m = (refl, refl)
 entry_fault k op.WrongWireType m = (refl, refl)
@@ -237,13 +237,13 @@ entry_fault k op.NotUtf8 m = (refl, refl)
 entry_fault k op.OverLimit m = (refl, refl)
 entry_fault k op.Memory m = absurd (let x : true ≡ false = m in cc)
 
--- ---- the first row with the digest text of each
+-- ---- for each row, the first row with its digest text
 
--- the first of the rows up to n is the first of all
+-- the first row with a digest text among the first n rows is the first one among all rows
 pub first_of_all : (rows : List Row) (n k : ℕ) (d : List ℕ) → n ≤ length rows → IsFirst rows n d (Some k) → IsFirst rows (length rows) d (Some k)
 first_of_all rows n k d h f = (let l = f.0 in omega (arith, h, l), f.1, f.2)
 
--- with the first row for the next one, there is one more
+-- with the first row for the digest text of the next row, the list has one more
 pub firsts_push : (rows : List Row) (firsts : List ℕ) (n k : ℕ) → length firsts ≡ n
     → ((j : ℕ) → j < n → IsFirst rows (length rows) (row_at rows j).digest (Some (get_or firsts j 0)))
     → IsFirst rows (length rows) (row_at rows n).digest (Some k)

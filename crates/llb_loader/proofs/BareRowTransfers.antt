@@ -1,5 +1,5 @@
--- From bare rows to the rows whose digest texts they have: what refuses the one, once they are known to be apart, refuses the other, and the graph is
--- the same.
+-- From bare rows to the rows whose digest texts they have: once both are known to be apart, what refuses one refuses the other, and the
+-- graph is the same.
 use Rattle.std.proofs.Common.{◌≡◌, ℕ, ◌-◌, ◌<◌, List, inl, inr, Option, length, map, sym, ◌∙◌, ap, subst, arith}
 use Rattle.std.proofs.lemmas.Bool.{cases_lt}
 use Rattle.std.specs.Option.{unwrap_or}
@@ -52,7 +52,7 @@ module _ (B R : List Row) (ops : List Op) (t s : ℕ) (named : (d : List ℕ) �
 foremost_to : (P Q : ℕ → ℕ → Type 0) → ((k i : ℕ) → P k i → Q k i) → ((k i : ℕ) → Q k i → P k i) → (k i : ℕ) → Foremost P k i → Foremost Q k i
 foremost_to P Q to from k i f = record { holds = to k i f.holds; least = λ j h q. f.least j h (from j h q) }
 
--- ---- the same, where both are apart
+-- ---- two plans of the same ops, whose rows have the same names and are apart in both
 
 module _ (B R : List Row) (ops : List Op) (t s : ℕ) (named : (d : List ℕ) → row_named B t d ≡ row_named R t d)
     (links : graph_of B t ops ≡ graph_of R t ops) (bare : IsApart B) (apart : IsApart R) (terminal : IsTerminal R t) where
@@ -155,14 +155,14 @@ module _ (B R : List Row) (ops : List Op) (t s : ℕ) (named : (d : List ℕ) �
           result = e;
         } in n) (edge_same (input_at (op_at ops t) 0))
 
--- ---- the rows
+-- ---- from the plans to the rows
 
 -- where no row collides and not all are the same, the terminal is the one that a search finds
 terminal_found : (R : List Row) → IsApart R → 0 < length R → IsTerminal R (terminal_in R)
 terminal_found R apart some = terminal_is R (terminal_in R) some apart.apart
     (value_there (first_with R (row_at R (length R - 1)).digest) (λ e. last_there R some e))
 
--- rows that are not all the same are there
+-- if not all rows are the same, there is at least one row
 pub some_rows : (R : List Row) → IsApart R → 0 < length R
 some_rows R apart = elim (cases_lt 0 (length R)) [
   | inl l ↦ l

@@ -71,7 +71,7 @@ none_found : {X : Type 0} (p : X → Bool) (xs : List X) → find p xs ≡ None 
 none_found p [] e = tt
 none_found p (x ∷ xs) e = let f = not_found p x xs e in (f.0, none_found p xs f.1)
 
--- what follows a text's prefix that is not the whole text
+-- a text that begins with a prefix and is not this prefix has something after it
 behind_front : (front text : List ℕ) → starts_with nat_eq text front ≡ true → text ≢ front
     → (text ≡ front ++ drop (length front) text) × (0 < length (drop (length front) text)) × (behind front text ≡ Some (drop (length front) text))
 behind_front front text e n =
@@ -438,7 +438,7 @@ module _ (p : Plan) (order : List ℕ) (whole : IsWhole p order) (len : length p
         few = (let b = built_len in omega (arith, b, few, short));
       }
 
-      -- ---- and the one that the plan says
+      -- ---- the graph is the one that the plan says
 
       edge_same : (k i : ℕ) → k < length order → i < length (op_at p.ops (get_or order k 0)).inputs
           → edge_at (vertex_at vs k).inputs i ≡ edge_of p order (input_at (op_at p.ops (get_or order k 0)) i)

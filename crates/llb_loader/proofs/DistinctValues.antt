@@ -64,7 +64,7 @@ among_cases values n v m = elim (at_or_below m.place n m.below) [
   | inr e ↦ inr (subst (λ (i : ℕ). Share (value_at values i) v) e m.shared)
 ]
 
--- a test that holds of the values that the first n places have
+-- a test that holds of exactly those values that the first n places have
 pub record IsSeen {X : Type 0} (values : List (Option X)) (n : ℕ) (held : X → Bool) : Type 0 where
   pub among : (x : X) → held x ≡ true → IsAmong values n (Some x)
   pub all : (x : X) → IsAmong values n (Some x) → held x ≡ true
@@ -114,12 +114,12 @@ seen_more {X} cmp total only values n p held next here added s = record {
     equal_from Less e = absurd (let x : false ≡ true = e in cc)
     equal_from Greater e = absurd (let x : false ≡ true = e in cc)
 
--- where a negation fails, what it denies is so
+-- if the negation of a test is false, the test is true
 pub when_not_false : (b : Bool) → not b ≡ false → b ≡ true
 when_not_false true e = refl
 when_not_false false e = absurd (let x : true ≡ false = e in cc)
 
--- where a negation holds, what it denies is not so
+-- if the negation of a test is true, the test is false
 pub when_not_true : (b : Bool) → not b ≡ true → b ≡ false
 when_not_true true e = absurd (let x : false ≡ true = e in cc)
 when_not_true false e = refl

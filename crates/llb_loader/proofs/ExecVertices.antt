@@ -1,4 +1,4 @@
--- The vertex of an exec: what its rules and the features that it has not leave of it.
+-- The vertex of an exec: which kinds of mounts it can have, given its rules and that it has no unsupported features.
 use Rattle.std.proofs.Common.{◌≡◌, ◌⊎◌, inl, inr, zero, suc, ℤ, pos, negsuc, true, false, List, [], Option, Some, None, IsSome, Result, Ok}
 use Rattle.std.proofs.Common.{Err, length, unwrap_or, get_or, refl, ◌∙◌, ap, subst, arith}
 use Rattle.std.proofs.lemmas.Int.{ints}

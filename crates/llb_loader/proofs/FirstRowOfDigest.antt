@@ -41,7 +41,7 @@ first_there rows n d k f = (omega (arith, f.0), f.1, f.2)
 pub first_new : (rows : List Row) (n : ℕ) (d : List ℕ) → (row_at rows n).digest ≡ d → IsFirst rows n d None → IsFirst rows (n + 1) d (Some n)
 first_new rows n d e f = (omega arith, e, f)
 
--- once the row at n is in the index
+-- the look-up after row n, whose digest text is new, is entered in the index
 pub first_update : (rows : List Row) (n : ℕ) (d : List ℕ) (look : List ℕ → Option ℕ) → look (row_at rows n).digest ≡ None
     → ((e : List ℕ) → IsFirst rows n e (look e)) → IsFirst rows (n + 1) d (update bytes_eq look (row_at rows n).digest (Some n) d)
 first_update rows n d look fresh f = elim (cases_Bool (bytes_eq (row_at rows n).digest d)) [
@@ -55,7 +55,7 @@ first_update rows n d look fresh f = elim (cases_Bool (bytes_eq (row_at rows n).
       subst (λ (b : Bool). IsFirst rows (n + 1) d (cond b (Some n) (look d))) (sym t) (first_other rows n d (look d) x (f d)))
 ]
 
--- the row at n has a digest text that is there
+-- the look-up after row n, whose digest text is in the index already
 pub first_again : (rows : List Row) (n k : ℕ) (d : List ℕ) (look : List ℕ → Option ℕ) → look (row_at rows n).digest ≡ Some k
     → ((e : List ℕ) → IsFirst rows n e (look e)) → IsFirst rows (n + 1) d (look d)
 first_again rows n k d look there f = elim (cases_bytes (row_at rows n).digest d) [
@@ -104,7 +104,7 @@ equal_apart rows j k f e apart c =
       ]
     ]
 
--- what is read of a row
+-- the row that is read at place k is row k
 pub row_read : (rows : List Row) (k : ℕ) (x : Row) → k < length rows → x ≡ get_or rows k x → row_at rows k ≡ x
 row_read rows k x h e = sym (get_or_read rows k x h e (record { digest = []; bytes = [] }))
 
@@ -118,7 +118,7 @@ below_step P n below here j l = elim (cases_lt j n) [ inl b ↦ below j b | inr 
 
 -- ---- the terminal
 
--- a result for one row more
+-- if there is a first row, or none, among n rows, so there is among one row more
 one_more : (rows : List Row) (n : ℕ) (d : List ℕ) (o : Option ℕ) → IsFirst rows n d o → (p : Option ℕ) × IsFirst rows (n + 1) d p
 one_more rows n d None f = elim (cases_bytes (row_at rows n).digest d) [
   | inl e ↦ (Some n, first_new rows n d e f)
@@ -126,7 +126,7 @@ one_more rows n d None f = elim (cases_bytes (row_at rows n).digest d) [
 ]
 one_more rows n d (Some k) f = (Some k, first_there rows n d k f)
 
--- there is a result
+-- among any number of rows there is a first row with a digest text, or none has it
 find_first : (rows : List Row) (n : ℕ) (d : List ℕ) → (o : Option ℕ) × IsFirst rows n d o
 find_first rows zero d = (None, first_start rows d)
 find_first rows (suc n) d =

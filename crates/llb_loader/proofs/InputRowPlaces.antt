@@ -76,7 +76,7 @@ graph_at rows t ops k = elim (cases_lt k (length ops)) [
       ∙ sym (ap (rows_named rows t) (get_or_past ops k (record { inputs = []; kind = None; extra = [] }) g)))
 ]
 
--- what an edge leads to is below
+-- the row to which an edge leads is below n, if all inputs are in range
 edge_below : (g : List (List ℕ)) (n a b : ℕ) → InRange g n → HasEdge g a b → b < n
 edge_below g n a b all e = elim (cases_lt a (length g)) [
   | inl l ↦ All-contains (λ x. x < n) (inputs g a) b (All-get_or (λ (r : List ℕ). All (λ x. x < n) r) g a [] l all) e
@@ -101,7 +101,7 @@ walk_first rows t ops s k (suc n) f (c, w, e) =
 pub reached_first : (rows : List Row) (t : ℕ) (ops : List Op) (s k : ℕ) → IsFirstRow rows s → Reached (graph_of rows t ops) s k → IsFirstRow rows k
 reached_first rows t ops s k f r = walk_first rows t ops s k r.0 f r.1
 
--- ---- where the first n inputs are named
+-- ---- rows of inputs, where each of the first n inputs names a row
 
 abbrev pub NamedAt : {X : Type 0} → (X → Option ℕ) → List X → X → ℕ → Type 0
 NamedAt h xs d n = (n ≤ length (filter_map h xs)) × ((i : ℕ) → i < n → get_or (filter_map h xs) i 0 ≡ unwrap_or (h (get_or xs i d)) 0)
@@ -149,7 +149,7 @@ below_pos n (negsuc k) b = absurd (let h = b.low in omega (arith, ints, h))
 
 -- ---- a value that is there
 
--- what is not None is Some of the number that is read of it
+-- a value that is not None is Some of the number that `unwrap_or` takes out of it
 pub value_there : (o : Option ℕ) → o ≢ None → o ≡ Some (unwrap_or o 0)
 value_there None n = absurd (n refl)
 value_there (Some k) n = refl

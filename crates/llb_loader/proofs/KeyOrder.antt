@@ -27,7 +27,7 @@ seeds_same None (Some b) e = absurd (let x : Less ≡ Equal = e in cc)
 seeds_same (Some a) None e = absurd (let x : Greater ≡ Equal = e in cc)
 seeds_same (Some a) (Some b) e = ap (λ s. Some s) (seed_cmp-IsAntisymmetric a b e)
 
--- keys of which neither comes first are one
+-- two keys of which neither comes first are equal
 pub key_cmp-IsAntisymmetric : IsAntisymmetric key_cmp
 key_cmp-IsAntisymmetric a b e =
     let parts = both_equal (ordering_then (slice_cmp nat_cmp a.id b.id) (int_cmp a.mode b.mode)) (option_cmp seed_cmp a.seed b.seed) e in

@@ -203,7 +203,7 @@ module _ (rows : List Row) (ops : List Op) (t : ℕ) (several : AllSame rows →
         (subst (λ (xs : List Op). RefusesUnknown rows t xs (IsMarked seen) e) same_ops
         (subst (λ (xs : List Bool). RefusesUnknown rows t read (IsMarked xs) e) same_marks r)))
 
-    -- where there is none, the plan is that of the rows, and each input of a reached row names a row
+    -- where each input of each marked row names a row, so does each input of each reached row, and the plan is that of the rows
     pub resolved : ((k : ℕ) → IsMarked marks k → NamesAll rows t (op_at read k) (length (op_at read k).inputs))
         → IsPlanOf rows ops (plan rows ops t s) × IsNamed (plan rows ops t s) × ((k : ℕ) → IsMarked seen k ↔ ReachedRow (plan rows ops t s) k)
     resolved names = (

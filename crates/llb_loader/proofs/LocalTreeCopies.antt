@@ -32,7 +32,7 @@ front_of [] (suc i) = refl
 front_of (e ∷ es) zero = refl
 front_of (e ∷ es) (suc i) = ap (λ ls. (string_bytes e.0, e.1) ∷ ls) (front_of es i)
 
--- the names of a map differ, so that one more comes after those before it
+-- one more local is copied: since the names of a map differ, it comes after those that are copied already
 pub local_copied : {Z : Type 0} (es : List (String Z × TreeMap)) (new : List Local) (i : ℕ) → i < length es → IsDistinct string_eq (keys_of es)
     → IfSome (slice_get es i) (λ e. new ≡ with_local (take i (locals_of es)) (string_bytes e.0) e.1) → new ≡ take (i + 1) (locals_of es)
 local_copied {Z} es new i below distinct put =

@@ -11,7 +11,7 @@ use Rattle.llb_loader.specs.FirstMissingTree.{lacks, missing_local, first_of}
 drop_at : {A : Type 0} (xs : List A) (i : ℕ) (x : A) → slice_get xs i ≡ Some x → drop i xs ≡ x ∷ drop (i + 1) xs
 drop_at xs i x at = drop-cons xs i x (slice_get_within xs i x at) ∙ (λ j. get_or_from_slice_get xs i x x at j ∷ drop (sym (add-one i) j) xs)
 
--- none of the vertices so far lacks one
+-- a search for a missing local tree from vertex i on finds what the search over all vertices finds
 abbrev pub AsMissing : List Local → List Vertex → ℕ → Type 0
 AsMissing locals vs i = missing_local locals (drop i vs) ≡ missing_local locals vs
 

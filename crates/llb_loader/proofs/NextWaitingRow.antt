@@ -10,7 +10,7 @@ use Rattle.llb_loader.specs.ReachedRows.{lists, inputs}
 use Rattle.llb_loader.specs.WaitingRows.{IsMarked, IsChecked, GoesToWaiting}
 use Rattle.llb_loader.proofs.RowReadsAndMarks.{list_at}
 
--- a row whose inputs are marked up to one that is not goes to the rows that wait for that one
+-- a row whose first inputs are marked goes, by its first input that is not marked, to the rows that wait for this input
 pub goes_to_waiting : (g : List (List ℕ)) (done : List Bool) (w : Waiter) (r : ℕ → Bool) (named : List ℕ) (at : ℕ)
     (items : List (Vec Waiter)) (old next : Vec Waiter)
     → named ≡ inputs g w.row → IsChecked g done w → at < length named

@@ -32,7 +32,7 @@ pub record IsWaiting (g : List (List ℕ)) (start : ℕ) (done : List Bool) (b :
   pub edge : HasEdge g w.row b
   pub blocked : IsFresh done b
 
--- `IsReady`, by the marks
+-- a row that can be numbered: what `IsReady` says, but in terms of the marks (a reached row without a mark, all of whose inputs are marked)
 pub record IsOpenRow (g : List (List ℕ)) (start : ℕ) (done : List Bool) (k : ℕ) : Type 0 where
   pub reached : Reached g start k
   pub fresh : IsFresh done k
@@ -67,7 +67,7 @@ put_cases t u a h q e = elim (cases_eq a q) [
   | inr x ↦ inl (sym (h q ∙ ap (λ b. cond b true (t q)) (ne_eqb a q x)) ∙ e)
 ]
 
--- a test without a
+-- a test that excludes `a`, and is otherwise another test, agrees with this one on all rows but `a`
 pub cut_other : (t u : ℕ → Bool) (a : ℕ) → ((q : ℕ) → u q ≡ cond (eqb a q) false (t q)) → (q : ℕ) → q ≢ a → u q ≡ t q
 cut_other t u a h q n = h q ∙ ap (λ b. cond b false (t q)) (ne_eqb a q (λ e. n (sym e)))
 
@@ -176,7 +176,7 @@ woken_end woken i h q v = (let a = v.1 in let b = v.2 in omega arith)
 pub fresh_stays : (done : List Bool) (k q : ℕ) → q ≢ k → IsFresh done q → IsFresh (set done k true) q
 fresh_stays done k q n f = get_or-set_other done k q true false n ∙ f
 
--- what waits for an input that is not numbered is not the row that is ready
+-- a row that waits for an input without a number is not row k, which is ready
 pub waits_other : (g : List (List ℕ)) (start : ℕ) (done : List Bool) (k b : ℕ) (w : Waiter) → IsOpenRow g start done k → IsWaiting g start done b w → w.row ≢ k
 waits_other g start done k b w o v e = not_both done b (All-contains (IsMarked done) (inputs g k) b o.all (rw (← e) v.edge)) v.blocked
 
@@ -294,7 +294,7 @@ order_step g start done order r ws k h m least s o =
 
 -- ---- where nothing is ready
 
--- a row that is not numbered goes on to another
+-- a row that is not numbered names another row that is not numbered
 pub goes_on : (g : List (List ℕ)) (start : ℕ) (done : List Bool) (r : ℕ → Bool) (ws : List (List Waiter)) (k : ℕ)
     → ((q : ℕ) → r q ≡ false) → IsPlaced g start done r ws NoRow → Reached g start k → IsFresh done k → (b : ℕ) × HasEdge g k b × IsFresh done b
 goes_on g start done r ws k none s t f = elim (s.covers k t f) [
@@ -305,7 +305,7 @@ goes_on g start done r ws k none s t f = elim (s.covers k t f) [
   ]
 ]
 
--- so ranks would fall for ever
+-- so if each edge goes down in rank, ranks would fall for ever, which is impossible
 pub falls_for_ever : (g : List (List ℕ)) (start : ℕ) (done : List Bool) (rank : ℕ → ℕ) → GoesDown g start rank
     → ((k : ℕ) → Reached g start k → IsFresh done k → (b : ℕ) × HasEdge g k b × IsFresh done b)
     → (bound k : ℕ) → rank k < bound → Reached g start k → IsFresh done k → ⊥
@@ -315,7 +315,7 @@ falls_for_ever g start done rank down on (suc bound) k h t f =
     let l = down k n.0 t n.1 in
     falls_for_ever g start done rank down on bound n.0 (omega (arith, l, h)) (reached_step g start k n.0 t n.1) n.2
 
--- a reached row without a number, where none is ready, leads on to another for ever, so that there is a cycle
+-- if no row is ready and a reached row has no number, each such row names another one, so there is a cycle
 pub cycle_from_stuck : (g : List (List ℕ)) (start : ℕ) (done : List Bool) (r : ℕ → Bool) (ws : List (List Waiter)) (k : ℕ)
     → ((q : ℕ) → r q ≡ false) → IsPlaced g start done r ws NoRow → Reached g start k → IsFresh done k → HasCycle g start
 cycle_from_stuck g start done r ws k none s t f rank down =
@@ -323,7 +323,7 @@ cycle_from_stuck g start done r ws k none s t f rank down =
 
 -- ---- the code's steps
 
--- every row is new
+-- at first no row is marked
 pub fresh_all : (n k : ℕ) → IsFresh (replicate n false) k
 fresh_all n k = elim (cases_Bool (get_or (replicate n false) k false)) [ inl m ↦ absurd (none_marked n k m) | inr f ↦ f ]
 
@@ -335,7 +335,7 @@ order_start g start n = record {
   each = λ i h. absurd (omega arith);
 }
 
--- the list of the row is taken, and an empty one put in its place
+-- the row is numbered: the list of the rows that wait for it is taken, and an empty one is put in its place
 pub turn_taken : (g : List (List ℕ)) (start : ℕ) (done : List Bool) (r r' : ℕ → Bool) (items : List (Vec Waiter)) (k : ℕ) (old next : Vec Waiter)
     → k < length done → k < length items → r k ≡ true → ((q : ℕ) → r' q ≡ cond (eqb k q) false (r q)) → old ≡ get_or items k old → next.items ≡ []
     → IsPlaced g start done r (lists items) NoRow
@@ -361,11 +361,11 @@ pub reached_below : (g : List (List ℕ)) (start n : ℕ) (seen : List Bool) →
     → length seen ≡ n → (k : ℕ) → Reached g start k → k < n
 reached_below g start n seen exact l k t = let h = marked_below seen k ((exact k).1 t) in omega (arith, h, l)
 
--- one more row is looked at: it is placed, or isn't reached
+-- a row at or after `row` is after it, or is `row` itself
 pub looked_placed : (k row : ℕ) → row ≤ k → (row + 1 ≤ k) ⊎ (k ≡ row)
 looked_placed k row h = elim (cases_eq k row) [ inl e ↦ inr e | inr n ↦ inl (omega arith) ]
 
--- a row without a mark is not reached, so what is reached from there on comes after it
+-- a row without a mark is not reached, so a reached row at or after it comes after it
 pub looked_past : (g : List (List ℕ)) (start : ℕ) (seen : List Bool) → ((k : ℕ) → (get_or seen k false ≡ true) ↔ Reached g start k)
     → (row : ℕ) → IsFresh seen row
     → (k : ℕ) → Reached g start k → row ≤ k → row + 1 ≤ k

@@ -18,7 +18,7 @@ more_yes os i h t = count_by_more_yes is_output os i none h t
 pub more_no : (os : List ℤ) (i : ℕ) → i < length os → is_output (output_at os i) ≡ false → count_outputs (take (i + 1) os) ≡ count_outputs (take i os)
 more_no os i h t = count_by_more_no is_output os i none h t
 
--- what is read of the items of a list, each with an output number
+-- the output number that is read at a place is that of the item there
 pub output_read : {X : Type 0} (output : X → ℤ) (xs : List X) (i : ℕ) (x : X) → i < length xs → x ≡ get_or xs i x → output_at (map output xs) i ≡ output x
 output_read output xs i x h e = get_or-map output xs i x none h ∙ ap output (sym e)
 
@@ -34,7 +34,7 @@ pub count_more_no : {X : Type 0} (output : X → ℤ) (xs : List X) (i : ℕ) (x
 count_more_no output xs i x h e t = more_no (map output xs) i (let l = length-map xs output in omega (arith, l, h))
     (ap is_output (output_read output xs i x h e) ∙ t)
 
--- the first i numbers are taken: each marks its place
+-- the output numbers of the first i places are taken: each has marked its own place in `seen`
 pub record IsTaking (os : List ℤ) (seen : List Bool) (i : ℕ) : Type 0 where
   pub len : length seen ≡ count_outputs os
   pub passed : (a : ℕ) → a < i → output_at os a ≢ none → IsBelow (count_outputs os) (output_at os a)
@@ -68,7 +68,7 @@ taking_start os n e = record {
   left = (let u = unmarked-none n in omega (arith, u, e));
 }
 
--- a place without an output takes no number
+-- a place that has no output takes no number
 pub taking_skip : (os : List ℤ) (seen : List Bool) (i : ℕ) → output_at os i ≡ none
     → count_outputs (take (i + 1) os) ≡ count_outputs (take i os) → IsTaking os seen i → IsTaking os seen (i + 1)
 taking_skip os seen i e n s = record {
@@ -137,7 +137,7 @@ twice os seen i j e m s o =
     let same = o.once r.0 i (not_none _ j r.2) (r.2 ∙ sym e) in
     omega (arith, same, r.1)
 
--- -1 alone is the number of no output
+-- only the number -1 says that there is no output
 pub is_none_from : (z : ℤ) → is_output z ≡ false → z ≡ none
 is_none_from (pos n) e = absurd (let x : true ≡ false = e in cc)
 is_none_from (negsuc zero) e = refl

@@ -18,7 +18,7 @@ use Rattle.llb_loader.specs.Linking.{Refused}
 use Rattle.llb_loader.specs.ReachedRowChecks.{NamesAll, RefusesUnknown, RefusesFeature, RefusesRule, RefusesIndex, FitsAll, FirstBad, asked_of, count_there}
 use Rattle.llb_loader.proofs.InputRowPlaces.{named_below, in_range, graph_at, row_below, NamedAt, named_at}
 
--- ---- the parts of a plan
+-- ---- the rows of a plan
 
 -- the result's row is one of the rows, as an input names it
 pub started_below : (p : Plan) → IsStarted p → p.start < length p.rows

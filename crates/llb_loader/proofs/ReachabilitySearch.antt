@@ -9,7 +9,7 @@ use Rattle.llb_loader.proofs.RowReadsAndMarks.{marked_below, unmarked, unmarked-
 use Rattle.llb_loader.specs.WaitingRows.{IsMarked}
 use Rattle.llb_loader.specs.ReachedRows.{inputs, InRange, HasEdge, Walk, Reached}
 
--- the marks and the stack of a search; P are the rows that it is at
+-- the marks and the stack of a search. P holds of the row, if any, that the search has taken off the stack and is still looking at
 pub record IsSearching (g : List (List ℕ)) (start : ℕ) (seen : List Bool) (stack : List ℕ) (P : ℕ → Type 0) : Type 0 where
   pub sound : (k : ℕ) → IsMarked seen k → Reached g start k
   pub begun : IsMarked seen start
@@ -19,14 +19,14 @@ pub record IsSearching (g : List (List ℕ)) (start : ℕ) (seen : List Bool) (s
 abbrev pub NoRow : ℕ → Type 0
 NoRow k = ⊥
 
--- a mark stays
+-- a marked row is still marked after another mark is set
 pub mark_stays : (seen : List Bool) (b k : ℕ) → b < length seen → IsMarked seen k → IsMarked (set seen b true) k
 mark_stays seen b k h m = elim (cases_eq k b) [
   | inl e ↦ rw e (get_or-set_same seen b true false h)
   | inr e ↦ get_or-set_other seen b k true false e ∙ m
 ]
 
--- a mark is old or is the new one
+-- after a new mark is set, each marked row was marked before or is the new one
 pub mark_cases : (seen : List Bool) (b k : ℕ) → IsMarked (set seen b true) k → IsMarked seen k ⊎ (k ≡ b)
 mark_cases seen b k m = elim (cases_eq k b) [
   | inl e ↦ inr e
@@ -54,7 +54,7 @@ searching_mark g start seen stack P b h r s = record {
   ];
 }
 
--- the search goes to the row on top
+-- the search takes the row on top of the stack
 pub searching_take : (g : List (List ℕ)) (start : ℕ) (seen : List Bool) (stack : List ℕ) (row : ℕ)
     → IsSearching g start seen (stack ++ row ∷ []) NoRow → IsSearching g start seen stack (λ k. k ≡ row)
 searching_take g start seen stack row s = record {
@@ -67,7 +67,7 @@ searching_take g start seen stack row s = record {
   ];
 }
 
--- and leaves it once its inputs are marked
+-- the search leaves this row once its inputs are marked
 pub searching_leave : (g : List (List ℕ)) (start : ℕ) (seen : List Bool) (stack : List ℕ) (row : ℕ) → All (IsMarked seen) (inputs g row)
     → IsSearching g start seen stack (λ k. k ≡ row) → IsSearching g start seen stack NoRow
 searching_leave g start seen stack row all s = record {
@@ -112,7 +112,7 @@ searching_start g start n h =
       closed = λ k m. inl (rw (only k m) (Contains-push [] start));
     }
 
--- the stack without its top
+-- the search takes the top row off its stack, and `rest` is left
 pub searching_pop : (g : List (List ℕ)) (start : ℕ) (seen : List Bool) (stack rest : List ℕ) (row : ℕ) → stack ≡ rest ++ row ∷ []
     → IsSearching g start seen stack NoRow → IsSearching g start seen rest (λ k. k ≡ row)
 searching_pop g start seen stack rest row e s =

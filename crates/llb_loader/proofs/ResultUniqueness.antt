@@ -31,7 +31,7 @@ use Rattle.llb_loader.specs.LoadResult.{rows_from}
 use Rattle.llb_loader.specs.UniqueResult.{HasOneAnswer, HasOneAnswerIn}
 use Rattle.llb_loader.proofs.UniqueNumbering.{one_numbering, numbering_down}
 
--- ---- what is least is one
+-- ---- at most one number is the least
 
 least_one : (P : ℕ → Type 0) (j k : ℕ) → Least P j → Least P k → j ≡ k
 least_one P j k a b = elim (cases_order j k) [
@@ -62,7 +62,7 @@ broken_one is kind (r ∷ rs) a b h g = elim h [
 -- ---- the refusals of a plan, one after another
 
 module _ (p : Plan) where
-  -- what holds once the first refusals do not apply
+  -- what holds of a plan if none of the first n + 1 refusals applies to it
   abbrev Passes : ℕ → Type 0
   Passes zero = ¬ AllSame p.rows
   Passes (suc zero) = IsApart p.rows
@@ -74,7 +74,7 @@ module _ (p : Plan) where
   Passes (suc (suc (suc (suc (suc (suc (suc zero))))))) = (order : List ℕ) × IsValid p order
   Passes (suc (suc (suc (suc (suc (suc (suc (suc n)))))))) = (order : List ℕ) × IsWhole p order
 
-  -- a refusal in its turn
+  -- refusal n, counted from 0, applies with fault e, and none of those before it applies
   abbrev Stops : ℕ → LoadFault → Type 0
   Stops zero e = (e ≡ TooFew) × AllSame p.rows
   Stops (suc zero) e = (k : ℕ) × (e ≡ Collision k) × (¬ AllSame p.rows) × Least (Collides p.rows) k
@@ -104,7 +104,7 @@ module _ (p : Plan) where
   passed_below m zero s = subst (λ (n : ℕ). Passes n) (let e : zero + m ≡ m = omega arith in e) s
   passed_below m (suc d) s = passed_below m d (passed_before (d + m) (subst (λ (n : ℕ). Passes n) (let e : suc d + m ≡ suc (d + m) = omega arith in e) s))
 
-  -- a refusal applies where all before it do not
+  -- a refusal applies only where all before it do not
   stopped_after : (n : ℕ) (e : LoadFault) → Stops (suc n) e → Passes n
   stopped_after zero e s = s.2
   stopped_after (suc zero) e s = s.1
@@ -116,7 +116,7 @@ module _ (p : Plan) where
   stopped_after (suc (suc (suc (suc (suc (suc (suc zero))))))) e s = (s.0, s.4)
   stopped_after (suc (suc (suc (suc (suc (suc (suc (suc n)))))))) e s = absurd s
 
-  -- and what it says is not passed
+  -- a refusal that applies in its turn is not passed
   stopped_fails : (n : ℕ) (e : LoadFault) → Stops n e → ¬ Passes n
   stopped_fails zero e s a = a s.1
   stopped_fails (suc zero) e s a = a.apart s.0 s.3.holds
@@ -131,7 +131,7 @@ module _ (p : Plan) where
   stopped_fails (suc (suc (suc (suc (suc (suc (suc (suc zero)))))))) e s a = a.1.indexes s.1 s.2 s.5.holds
   stopped_fails (suc (suc (suc (suc (suc (suc (suc (suc (suc n))))))))) e s a = s
 
-  -- in its turn it is one
+  -- two refusals that apply in the same turn are equal
   stopped_one : (n : ℕ) (e f : LoadFault) → Stops n e → Stops n f → e ≡ f
   stopped_one zero e f s t = s.0 ∙ sym t.0
   stopped_one (suc zero) e f s t = s.1 ∙ ap (λ (k : ℕ). Collision k) (least_one (Collides p.rows) s.0 t.0 s.3 t.3) ∙ sym t.1
@@ -170,7 +170,7 @@ module _ (p : Plan) where
       s.3 ∙ ap (λ (k : ℕ). BadIndex k s.2) at.0 ∙ ap (λ (i : ℕ). BadIndex t.1 i) at.1 ∙ sym t.3
   stopped_one (suc (suc (suc (suc (suc (suc (suc (suc (suc n))))))))) e f s t = absurd s
 
-  -- no two apply in different turns
+  -- no two refusals apply in different turns
   not_earlier : (m n : ℕ) (e f : LoadFault) → m < n → Stops m e → Stops n f → ⊥
   not_earlier m zero e f l s t = omega (arith, l)
   not_earlier m (suc n) e f l s t =

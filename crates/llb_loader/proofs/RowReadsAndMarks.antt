@@ -41,11 +41,11 @@ unmarked-mark seen k h e =
 pub list_at : {X : Type 0} (rows : List (Vec X)) (k : ℕ) (row : Vec X) → k < length rows → row ≡ get_or rows k row → get_or (lists rows) k [] ≡ row.items
 list_at {X} rows k row h e = get_or-map (λ (r : Vec X). r.items) rows k row [] h ∙ ap (λ (r : Vec X). r.items) (sym e)
 
--- what the code reads of a mark
+-- the mark that is read at place k is mark k
 pub mark_read : (marks : List Bool) (k : ℕ) (b : Bool) → k < length marks → b ≡ get_or marks k b → get_or marks k false ≡ b
 mark_read marks k b h e = sym (get_or_read marks k b h e false)
 
--- all of them at the start
+-- at the start no row is marked, so all rows count as not marked
 pub unmarked-none : (n : ℕ) → unmarked (replicate n false) ≡ n
 unfolding unmarked weight
 unmarked-none n = let e = sum_by-replicate weight n false in omega (arith, e)

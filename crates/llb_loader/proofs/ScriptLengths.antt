@@ -27,7 +27,7 @@ length_placed : (at : ℕ) (parts : List (List ℕ)) → length (placed at parts
 length_placed at [] = refl
 length_placed at (part ∷ parts) = let e = length_placed (at + length part + 1) parts in omega (arith, e)
 
--- words are at most one call more than there are words
+-- words make at most one call more than there are words
 calls_at_most : (words : List (List ℕ)) (join : Join) (call : List (List ℕ)) → length (calls_from words join call) ≤ length words + 1
 calls_at_most [] join call = omega arith
 calls_at_most (w ∷ ws) join call = by_word (join_of w) (λ next. calls_at_most ws next []) (calls_at_most ws join (call ++ w ∷ []))
@@ -73,7 +73,7 @@ nth_short args k all = elim (cases_lt k (length args)) [
   | inr g ↦ (let e = ap length (get_or_past args k [] g) in omega (arith, e))
 ]
 
--- the script of words that are no longer than an entry
+-- a script whose words are no longer than an entry has fewer than 2^25 commands
 pub script_short : (args : List (List ℕ)) (cs : List Joined) → All (λ a. length a ≤ entry_limit) args → script.script_of args ≡ Ok cs → length cs < 2 ^ 25
 script_short args cs all e = by_shell (script.is_shell args) e
   where
@@ -81,7 +81,7 @@ script_short args cs all e = by_shell (script.is_shell args) e
     by_shell true e = text_short (bad_place_of (get_or args 2 [])) (get_or args 2 []) cs (nth_short args 2 all) e
     by_shell false e = let l = commands_each 0 (first_call args ∷ []) cs e in omega (arith, l)
 
--- the commands of a meta that is within the limits
+-- a meta that is within the limits has fewer than 2^25 commands
 pub commands_short : (meta : Option Meta) → IsMetaOptWithin meta → length (unwrap_or (commands_in meta) []) < 2 ^ 25
 commands_short None w = omega arith
 commands_short (Some m) w = by_result (script.script_of m.args) (λ cs e. script_short m.args cs w.short e)

@@ -14,7 +14,7 @@ rank_head x k xs e = ap (λ (b : Bool). cond b 0 (suc (rank_in xs k))) (eq-eqb x
 rank_tail : (x k : ℕ) (xs : List ℕ) → x ≢ k → rank_in (x ∷ xs) k ≡ suc (rank_in xs k)
 rank_tail x k xs n = ap (λ (b : Bool). cond b 0 (suc (rank_in xs k))) (ne_eqb x k n)
 
--- a row is at its rank
+-- a row that is in the order is at the place that its rank says
 pub rank_at : (xs : List ℕ) (k i : ℕ) → i < length xs → get_or xs i 0 ≡ k → (rank_in xs k < length xs) × (get_or xs (rank_in xs k) 0 ≡ k)
 rank_at [] k i h e = absurd (omega arith)
 rank_at (x ∷ xs) k zero h e = let r = rank_head x k xs e in (omega (arith, r), subst (λ (n : ℕ). get_or (x ∷ xs) n 0 ≡ k) (sym r) e)
@@ -24,7 +24,7 @@ rank_at (x ∷ xs) k (suc i) h e = elim (cases_eq x k) [
       (omega (arith, r, t.0), subst (λ (m : ℕ). get_or (x ∷ xs) m 0 ≡ k) (sym r) t.1))
 ]
 
--- and not after any place where it is
+-- the rank of a row that is among the first i places is below i
 pub rank_before : (xs : List ℕ) (k i j : ℕ) → j < length (take i xs) → get_or (take i xs) j 0 ≡ k → rank_in xs k < i
 rank_before [] k zero j h e = absurd (omega arith)
 rank_before [] k (suc i) j h e = absurd (omega arith)
@@ -59,7 +59,7 @@ same_prefix g start xs ys s t (suc i) h l =
     let v : get_or xs i 0 ≡ get_or ys i 0 = omega (arith, a, b) in
     rw (← add-one) (take_more xs i 0 hx ∙ ap (λ (d : List ℕ). d ++ get_or xs i 0 ∷ []) e ∙ ap (λ (n : ℕ). take i ys ++ n ∷ []) v ∙ sym (take_more ys i 0 hy))
 
--- a whole numbering has no further turn
+-- a numbering of all rows can't be the beginning of a longer one
 pub no_more : (g : List (List ℕ)) (start : ℕ) (xs ys : List ℕ) → IsNumbering g start xs → IsNumbering g start ys → length xs < length ys → ⊥
 no_more g start xs ys s t h =
     let e = same_prefix g start xs ys s t (length xs) (omega arith) (omega arith) in

@@ -12,7 +12,7 @@ messages_more write n ms i d lt =
     ap (flat_map (λ m. set_bytes n (write m))) (take_more ms i d lt) ∙ flat_map-append (λ m. set_bytes n (write m)) (take i ms) (get_or ms i d ∷ [])
     ∙ ap (λ xs. flat_map (λ m. set_bytes n (write m)) (take i ms) ++ xs) (append-nil (set_bytes n (write (get_or ms i d))))
 
--- one message more is after what was written before
+-- one more message is written after those that were written before
 pub put_more : {A : Type 0} (write : A → List ℕ) (n : ℕ) (ms : List A) (i : ℕ) (d : A) (before so_far after bytes : List ℕ) → i < length ms
     → so_far ≡ before ++ messages_field write n (take i ms) → bytes ≡ write (get_or ms i d) → after ≡ so_far ++ set_bytes n bytes
     → after ≡ before ++ messages_field write n (take (i + 1) ms)
@@ -28,7 +28,7 @@ pub put_each_more : (n : ℕ) (items : List (List ℕ)) (i : ℕ) (d : List ℕ)
 unfolding each_field messages_field
 put_each_more n items i d before so_far after bytes lt old item put = put_more (λ bytes. bytes) n items i d before so_far after bytes lt old item put
 
--- the first of the messages that are left is put after what was written
+-- the first of the messages that are left is written after those before it
 pub put_next : {A : Type 0} (write : A → List ℕ) (n : ℕ) (m : A) (ms rest : List A) (total so_far after bytes : List ℕ) → ms ≡ m ∷ rest
     → so_far ++ messages_field write n ms ≡ total → bytes ≡ write m → after ≡ so_far ++ set_bytes n bytes
     → after ++ messages_field write n rest ≡ total

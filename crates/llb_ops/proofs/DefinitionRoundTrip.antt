@@ -1,4 +1,4 @@
--- The entries of a definition in bytes are read again of their canonical bytes, which are no longer.
+-- The entries that the bytes of a definition have are read again from their canonical bytes, which are no longer.
 use Rattle.std.proofs.Common.{◌≡◌, ℕ, ◌+◌, ◌<◌, ◌≤◌, ◌^◌, Bool, true, false, eqb, List, [], ◌∷◌, length, Result, Ok, refl, sym, ap, subst, ◌∙◌, arith}
 use Rattle.std.specs.Prelude.{nat_lt}
 use Rattle.std.specs.List.{AllByRecursion}
@@ -33,7 +33,7 @@ bytes_of w behind payload value is h are =
     let len : IsPayload wire.Len behind value payload = subst (λ (x : Wire). IsPayload x behind value payload) is h in
     (sym len.3, omega (arith, len.3, len.2.small), are_bytes-back len.0 payload (subst AreBytes len.1 are))
 
--- a record of an entry has no fewer bytes than the entry is written in
+-- the record of an entry has at least as many bytes as the canonical spelling of the entry
 entry_fits : (r : Record) → IsRecord r → AreBytes r.text → r.number ≡ 1 → r.wire ≡ wire.Len → length (set_bytes 1 r.payload) ≤ length r.text
 unfolding set_bytes
 entry_fits r h are number len =

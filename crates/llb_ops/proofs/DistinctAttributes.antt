@@ -19,7 +19,7 @@ abbrev pub Apart : List Held → Type 0
 Apart [] = Unit {0}
 Apart (p ∷ ps) = AllByRecursion (λ q. same q.0 p.0 ≡ false) ps × Apart ps
 
--- what holds of the keys and of one more holds of the keys with that one
+-- what holds of all keys and of one more key still holds of all keys after an entry with this key is put in
 keys_hold : (P : List ℕ → Type 0) (es : List Held) (k : List ℕ) (v : Attribute) → AllByRecursion (λ q. P q.0) es → P k
     → AllByRecursion (λ q. P q.0) (insert_entry same es k v)
 keys_hold P [] k v h n = (n, tt)
@@ -68,7 +68,7 @@ fold_apart front (p ∷ ps) h a =
     ∙ fold_apart (front ++ p ∷ []) ps (All-append (λ f. AllByRecursion (λ q. same q.0 f.0 ≡ false) ps) front (p ∷ []) (tails front p ps h) (a.0, tt)) a.1
     ∙ append_assoc front (p ∷ []) ps
 
--- attributes with keys of their own settle as they are
+-- attributes, no two of which have the same key, stay as they are when their entries are settled
 pub settles_again : (ps : List Held) → Apart ps → settled (map entry_of ps) ≡ ps
 unfolding settled
 settles_again ps a = fold_apart [] ps tt a

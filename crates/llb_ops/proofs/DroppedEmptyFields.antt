@@ -8,7 +8,7 @@ use Rattle.llb_wire.specs.Spelling.{shortest, varint_text, tag_text}
 use Rattle.llb_ops.specs.Writing.{set_number, set_bytes}
 use Rattle.llb_ops.specs.CanonicalFields.{Fields, extra, number, bytes, message, bytes_of, without_empty}
 
--- a smaller number has no longer spelling
+-- the spelling of a smaller number is not longer
 smaller : (more j k : ℕ) → j ≤ k → length (shortest more j) ≤ length (shortest more k)
 unfolding shortest
 smaller zero j k le = omega arith

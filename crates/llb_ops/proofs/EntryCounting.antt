@@ -1,4 +1,4 @@
--- What a definition is by its entries, as they are counted.
+-- What a definition's bytes are read as, decided by counting their entries.
 use Rattle.std.proofs.Common.{◌≡◌, ℕ, zero, suc, ◌-◌, ◌<◌, ◌≤◌, Bool, true, false, cond, List, [], ◌∷◌, length, Result, Ok, Err, refl, sym}
 use Rattle.std.proofs.Common.{ap, subst, ◌∙◌, arith}
 use Rattle.std.specs.Prelude.{nat_lt}
@@ -41,7 +41,7 @@ err_counted (Err g) f e = let h : g ≡ f = cc in ap (λ x. Err x) h
 pub unreadable : (bytes : List ℕ) (f : OpFault) → length bytes ≤ definition_limit → counted (entries_in bytes) ≡ Err f → definition_of bytes ≡ Err f
 unreadable bytes f fits e = by_entries bytes fits ∙ ap (λ r. r >>= entries_fit) (err_counted (entries_in bytes) f e)
 
--- what was counted is of entries that are there
+-- a count that succeeds is the count of entries that can be read
 there : (r : Result (List (List ℕ)) OpFault) (n : ℕ) (s : Bool) → counted r ≡ Ok (n, s)
     → (es : List (List ℕ)) × (r ≡ Ok es) × (length es ≡ n) × (are_short es ≡ s)
 there (Ok es) n s e = (
@@ -83,7 +83,7 @@ fits bytes n small e few =
 
 -- ---- what was admitted
 
--- the faults of records are not `Memory`
+-- no fault of a record is `Memory`
 first_named : (shape : Shape) (bytes : List ℕ) (r : Result Field WireFault) (e : OpFault)
     → (from_wire r >>= λ f. cond (wire_fits (form_of shape f.number) f.wire) (Ok f) (Err WrongWireType)) ≡ Err e → is_memory e ≡ false
 first_named shape bytes (Err d) e h = let is : Wire d ≡ e = cc in ap is_memory (sym is)
@@ -143,7 +143,7 @@ fit_same xs es h = by (nat_lt entries_limit (length xs)) (are_short xs) h where
   by false true h = cc
   by false false h = absurd cc
 
--- bytes that a definition's entries are read of have passed the test of their length
+-- if the entries of a definition are read of some bytes, these bytes have passed the test of their length
 pub is_short : (bytes : List ℕ) (es : List (List ℕ)) (b : Bool) → nat_lt definition_limit (length bytes) ≡ b → definition_of bytes ≡ Ok es
     → nat_lt definition_limit (length bytes) ≡ false
 unfolding definition_of
@@ -161,7 +161,7 @@ are_in bytes es h =
     let k = ok_of (entries_in bytes) entries_fit es (sym (by_entries bytes few) ∙ h) in
     k.1 ∙ ap (λ x. Ok x) (fit_same k.0 es k.2)
 
--- what was admitted fits
+-- the entries of a definition are within the limits
 pub still_fit : (bytes : List ℕ) (es : List (List ℕ)) → definition_of bytes ≡ Ok es → entries_fit es ≡ Ok es
 still_fit bytes es h =
     let few : length bytes ≤ definition_limit = ltb-false definition_limit (length bytes) (is_short bytes es (nat_lt definition_limit (length bytes)) refl h) in

@@ -19,7 +19,7 @@ pub in_err : (bytes : List ℕ) (f : OpFault) → records_from definition_shape 
 unfolding entries_in
 in_err bytes f e = rw e refl
 
--- an entry before others, where the record is one
+-- the payload of a record before other entries if the record is an entry, and else the other entries alone
 abbrev pub in_front : Record → List (List ℕ) → List (List ℕ)
 in_front r es = cond (eqb r.number 1) (r.payload ∷ es) es
 
@@ -41,7 +41,7 @@ in_more r bytes after e =
 
 -- ---- counting
 
--- the entries that are left, with those that were counted
+-- the count so far, with the entries that are left counted too
 abbrev pub tallied : ℕ × Bool → Result (List (List ℕ)) OpFault → Result (ℕ × Bool) OpFault
 tallied t read = read >>= λ es. Ok (t.0 + length es, t.1 && are_short es)
 
@@ -84,7 +84,7 @@ at_most_one : (t : ℕ × Bool) (r : Record) (b : Bool) → eqb r.number 1 ≡ b
 at_most_one t r true e = rw e (omega arith)
 at_most_one t r false e = rw e (omega arith)
 
--- a record is a byte at least, so that there are no more entries than bytes
+-- a record has at least one byte, so there are no more entries than bytes
 pub tally_small : (t s : ℕ × Bool) (r : Record) (rest after : List ℕ) → s ≡ one_more t r → length after < length rest
     → t.0 + length rest ≤ 67_108_864 → s.0 + length after ≤ 67_108_864
 tally_small t s r rest after is shorter few =
@@ -100,7 +100,7 @@ tally_done t bytes total none so_far =
 
 -- ---- gathering
 
--- the entries that are left after those that were gathered
+-- the entries that were gathered, followed by those that are left
 abbrev pub behind : List (List ℕ) → Result (List (List ℕ)) OpFault → Result (List (List ℕ)) OpFault
 behind front read = read >>= λ es. Ok (front ++ es)
 

@@ -22,7 +22,7 @@ use Rattle.llb_ops.proofs.NumberRoundTrip.{Recodes}
 use Rattle.llb_ops.proofs.RecordsByFieldNumber.{All-map, All-both, All-filter, filter_passes, filter_all, filter_narrow, mine, has_one, and_both}
 use Rattle.llb_ops.proofs.FieldRoundTrip.{IsGood, IsShort, IsWritten, FieldOf, Returns, ok_of, ok_is}
 
--- a good record of the field of that number
+-- a good record of the field with the number n
 pub record IsOf (shape : Shape) (n : ℕ) (r : Record) : Type 0 where
   pub good : IsGood shape r
   pub number : r.number ≡ n
@@ -41,7 +41,7 @@ same_number n rs h = filter_all (λ r. r.number == n) rs (All-map (λ r. r.numbe
 pub all_mine : (n : ℕ) (rs : List Record) → all n (mine (n ∷ []) rs) ≡ all n rs
 all_mine n rs = filter_narrow (λ r. r.number == n) (is_member (n ∷ [])) rs (λ r e. has_one n r.number e)
 
--- a field of one number, by what it is of its own records
+-- a field with one number, given what is read of, and written to, the records with this number
 abbrev pub plain : {shape : Shape} {M A : Type 0} (n : ℕ) (read : List Record → Result A OpFault)
     (run : List Record → (A → Result M OpFault) → Result M OpFault) (within : List Record → Bool) (write : A → List Record) (bytes : A → List ℕ)
     → ((xs : List Record) (k : A → Result M OpFault) → run xs k ≡ (read xs >>= k))
@@ -70,7 +70,7 @@ plain {shape} {M} {A} n read run within write bytes runs spells own written agai
 
 -- ---- numbers
 
--- a number of a field
+-- whether a number may be the number of a field
 abbrev pub is_number : ℕ → Bool
 is_number n = nat_lt 0 n && nat_le n 536_870_911
 
@@ -80,7 +80,7 @@ number_some n e = ltb-true 0 n (and_both (nat_lt 0 n) (nat_le n 536_870_911) e).
 number_small : (n : ℕ) → is_number n ≡ true → n ≤ 536_870_911
 number_small n e = leb-true n 536_870_911 (and_both (nat_lt 0 n) (nat_le n 536_870_911) e).1
 
--- a number that is left out where it is 0
+-- the records of a number in a field: one, or none for the number 0
 abbrev pub a_number : ℕ → ℕ → List Record
 a_number n v = if v == 0 then [] else number_part n v ∷ []
 
@@ -130,7 +130,7 @@ numeric {shape} {M} {A} n decode encode code range named =
 abbrev pub some_bytes : ℕ → List ℕ → List Record
 some_bytes n bytes = if length bytes == 0 then [] else bytes_part n bytes ∷ []
 
--- the bytes of a record that is not too long are not either
+-- if a record of bytes is not too long, neither are the bytes
 pub payload_short : (n : ℕ) (bytes : List ℕ) → IsShort (bytes_part n bytes) → length bytes < 2 ^ 64
 payload_short n bytes short =
     let tag = varint_text (8 * n + 2) in
@@ -182,7 +182,7 @@ pub set_spelled : (n : ℕ) (bytes : List ℕ) → spelled (bytes_part n bytes �
 unfolding set_bytes
 set_spelled n bytes = append-nil _
 
--- a text or bytes that are written also where they are empty
+-- a field with a text or bytes that is written even if these are empty
 abbrev pub set_string : {shape : Shape} {M : Type 0} (n : ℕ) → is_number n ≡ true → wire_fits (form_of shape n) wire.Len ≡ true
     → text_ok (form_of shape n) [] ≡ true → FieldOf shape M (List ℕ)
 set_string {shape} {M} n range fits empty =
@@ -218,7 +218,7 @@ pub message_short : {M : Type 0} (read : List ℕ → Result M OpFault) (write :
     → ((bytes : List ℕ) × (read bytes ≡ Ok m)) → Returns read write → IsShort (bytes_part n (write m)) → read (write m) ≡ Ok m
 message_short read write n m from returns short = returns from.0 m from.1 (payload_short n (write m) short)
 
--- a message that occurs once and is there was read of some bytes
+-- if a message is read of the records of a field that occurs once, it was read of some bytes
 pub one_from : {M : Type 0} (read : List ℕ → Result M OpFault) (xs : List Record) (m : M) (b : Bool) → eqb (length xs) 0 ≡ b
     → one read xs ≡ Ok (Some m) → (bytes : List ℕ) × (read bytes ≡ Ok m)
 unfolding one

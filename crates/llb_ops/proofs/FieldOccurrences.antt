@@ -1,4 +1,4 @@
--- How often a number occurs among others, and fields of which none occurs too often: counted after one another, or all together.
+-- How often a number occurs in a list. If no field number occurs too often among all fields, none does as `AreFew` counts them in order.
 use Rattle.std.proofs.Common.{◌≡◌, ℕ, ◌+◌, ◌≤◌, Bool, true, false, eqb, List, [], ◌∷◌, ◌++◌, length, map, refl, sym, ap, subst, ◌∙◌, eq-eqb, arith}
 use Rattle.std.specs.Prelude.{nat_le, ◌&&◌, ◌==◌, if◌then◌else◌}
 use Rattle.std.specs.List.{AllByRecursion}
@@ -34,9 +34,9 @@ AreInnerFew (number row v rest) = AreInnerFew rest
 AreInnerFew (bytes row held rest) = AreInnerFew rest
 AreInnerFew (message row inner rest) = NoneOften (numbers_of inner) × AreInnerFew inner × AreInnerFew rest
 
--- ---- what is counted together is counted after one another
+-- ---- if no number occurs too often in a list, none does as the list is counted in order
 
--- no number occurs too often among these and those before, where the last has occurred `count` times
+-- no number occurs too often in this list, if the number `last` has already occurred `count` times right before the list
 abbrev HasRoom : ℕ → ℕ → List ℕ → Type 0
 HasRoom last count ks = (n : ℕ) → (if last == n then count else 0) + stands n ks ≤ field_limit
 
@@ -125,7 +125,7 @@ inner_without (bytes row held rest) h = go (row.1.of_entry && (length held == 0)
   go false e k = rw e k
 inner_without (message row inner rest) (own, deep, h) = (none_often_without inner own, inner_without inner deep, inner_without rest h)
 
--- and none does once the empty keys and values of entries are left out
+-- nor does any number occur too often once the empty keys and values of entries are left out
 pub are_few_without : (fs : Fields) → NoneOften (numbers_of fs) → AreInnerFew fs → AreFew 0 0 (without_empty fs)
 are_few_without fs own inner = are_few (without_empty fs) (none_often_without fs own) (inner_without fs inner)
 
@@ -146,7 +146,7 @@ stands_at_most n (k ∷ ks) = go (eqb k n) (stands_at_most n ks) where
 pub none_often : (rs : List Record) → length rs ≤ field_limit → NoneOften (numbered rs)
 none_often rs few n = omega (arith, few, stands_at_most n (numbered rs), length-map rs (λ r. r.number))
 
--- a field that is repeated within its limit
+-- in a field that is repeated within its limit, no number occurs too often
 pub none_repeated : (n : ℕ) (rs : List Record) → AllByRecursion (λ r. r.number ≡ n) rs
     → nat_le (length (all n rs)) field_limit ≡ true → NoneOften (numbered rs)
 none_repeated n rs own within =
@@ -163,7 +163,7 @@ stands_append n (x ∷ xs) ys = go (eqb x n) (stands_append n xs ys) where
   go true h = omega (arith, h)
   go false h = h
 
--- a number that is among some isn't one that is not
+-- a number that is in a list is not equal to one that is not
 is_other : (ns : List ℕ) (j n : ℕ) → has ns j ≡ true → has ns n ≡ false → eqb j n ≡ false
 is_other ns j n e f = go (eqb j n) refl where
   go : (b : Bool) → eqb j n ≡ b → eqb j n ≡ false

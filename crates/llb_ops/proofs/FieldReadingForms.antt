@@ -16,7 +16,7 @@ form_by (r ∷ rows) n = go (r.1.number == n) refl (form_by rows n) where
   go true e rest = rw e refl
   go false e rest = rw e rest
 
--- the form of the row that was found, or of none
+-- the form of a field by the row that was found for it, or by no row
 pub form_found : (m : MessageName) (n : ℕ) (o : Option FieldRow) → option_map row_seen o ≡ row_numbered m n
     → option_map (λ r. form_of_kind r.field.kind) o ≡ form_of (shape_of m) n
 unfolding row_numbered

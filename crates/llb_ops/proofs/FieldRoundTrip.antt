@@ -25,7 +25,7 @@ pub record IsGood (shape : Shape) (r : Record) : Type 0 where
   pub fits : FitsShape shape r
   pub text : text_fits shape r ≡ true
 
--- a record that is written, where it is not too long
+-- a record that is not too long to be written (`IsShort`), and a record that is good if it is not too long (`IsWritten`)
 abbrev pub IsShort : Record → Type 0
 IsShort r = length r.text < 2 ^ 64
 
@@ -74,14 +74,14 @@ end = record {
 abbrev pub ok_of : {A : Type 0} → A → Result A OpFault
 ok_of x = Ok x
 
--- two equal results that succeed have the same value
+-- two equal results that succeed have equal values
 pub ok_is : {A : Type 0} (x y : A) → ok_of x ≡ ok_of y → x ≡ y
 ok_is x y e = cc
 
 abbrev pub pair_read : {A B : Type 0} → (List Record → Result A OpFault) → (List Record → Result B OpFault) → List Record → Result (A × B) OpFault
 pair_read f g rs = f rs >>= λ a. (g rs >>= λ b. Ok (a, b))
 
--- a pair that is read of two fields has the value of each
+-- if a pair is read of two fields, each field has the pair's value for it
 pub pair_parts : {A B : Type 0} (f : List Record → Result A OpFault) (g : List Record → Result B OpFault) (rs : List Record) (p : A × B)
     → pair_read f g rs ≡ Ok p → (f rs ≡ Ok p.0) × (g rs ≡ Ok p.1)
 pair_parts f g rs p e =
@@ -94,7 +94,7 @@ pub pair_again : {A B : Type 0} (f : List Record → Result A OpFault) (g : List
     → f rs ≡ Ok p.0 → g rs ≡ Ok p.1 → pair_read f g rs ≡ Ok p
 pair_again f g rs p e h = rw (e, h) refl
 
--- what one field reads among the records of both
+-- among the records of two fields, those of the first are found again
 pub front_only : (ns ms : List ℕ) (xs ys : List Record) → apart ns ms ≡ true → AllByRecursion (λ r. is_member ns r ≡ true) xs
     → AllByRecursion (λ r. is_member ms r ≡ true) ys → mine ns (xs ++ ys) ≡ xs
 front_only ns ms xs ys e h k =
@@ -261,7 +261,7 @@ fields_again {shape} f make rs a named good e w small =
 abbrev pub message_run : {shape : Shape} {A M : Type 0} → FieldOf shape M A → (A → List ℕ → M) → List Record → Result M OpFault
 message_run {shape} f make rs = f.run rs (λ a. if f.within rs then Ok (make a (unnamed shape rs)) else Err OverLimit)
 
--- a message's fields read one after the other are what they are read together
+-- reading a message's fields one after the other has the same result as reading them together
 pub run_parts : {shape : Shape} {A M : Type 0} (f : FieldOf shape M A) (make : A → List ℕ → M) (r : Result (List Record) OpFault)
     → (r >>= message_run f make) ≡ (r >>= message_read f make)
 run_parts {shape} f make (Ok rs) = f.runs rs (λ a. if f.within rs then Ok (make a (unnamed shape rs)) else Err OverLimit)

@@ -1,7 +1,7 @@
--- Lists that have the same at each place are the same.
+-- Two lists of one length that have equal items at each place are equal.
 use Rattle.std.proofs.Common.{◌≡◌, ℕ, zero, suc, ◌<◌, List, [], ◌∷◌, length, slice_get, unwrap_or, refl, ap, arith}
 
--- for maps in insertion order, which are compared place by place
+-- used for maps in insertion order, which are compared place by place
 pub all_same : {A : Type 0} → (xs ys : List A) → length xs ≡ length ys → ((k : ℕ) → k < length xs → slice_get xs k ≡ slice_get ys k) → xs ≡ ys
 all_same [] [] count each = refl
 all_same [] (y ∷ ys) count each = absurd (omega (arith, count))

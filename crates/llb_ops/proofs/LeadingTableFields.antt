@@ -30,7 +30,7 @@ pub record Tells (m : MessageName) (last : ℕ) (set : Bool) (next : ℕ) (then_
 
 -- ---- what may follow later may follow earlier
 
--- no more members are set
+-- if a member of the oneof is set at the first place, one is set at the second place too
 abbrev pub AtMost : Bool → Bool → Type 0
 AtMost s t = s || t ≡ t
 
@@ -76,7 +76,7 @@ left_most false b = refl
 
 -- ---- nothing, one field, and one after the other
 
--- a field that is left out
+-- no bytes at all lead to any later place
 pub tells_nothing : (m : MessageName) (last next : ℕ) (set then_set : Bool) → last ≤ next → AtMost set then_set → Tells m last set next then_set [] [] []
 tells_nothing m last next set then_set le few = record {
   tells = λ ms later spare x. record {
@@ -122,7 +122,7 @@ tells_number m last set row v next fits shown = record {
   };
 }
 
--- bytes that are no key and no value of an entry
+-- bytes in a field that is no key and no value of an entry lead past the field
 pub tells_bytes : (m : MessageName) (last : ℕ) (set : Bool) (row : Row) (held : List ℕ) → IsNext m last set row → IsBytesOf row.1.kind held
     → not (length held == 0) || may_be_empty row.1 ≡ true → row.1.of_entry ≡ false
     → Tells m last set row.1.number (set || row.1.member) (row.1.number ∷ []) (set_bytes row.1.number held) (set_bytes row.1.number held)

@@ -71,7 +71,7 @@ pub user_own : (a : User) → is_member users (user_record a) ≡ true
 user_own (ByName name) = refl
 user_own (ById id) = refl
 
--- what is known of a user that was read
+-- what holds of a user that was read: a number has 32 bits
 abbrev pub UserRead : User → Type 0
 UserRead (ByName name) = Unit {0}
 UserRead (ById id) = id < 2 ^ 32
@@ -229,7 +229,7 @@ ActionRead (action.MkFile m) = IsRead mk_file_of m
 ActionRead (action.MkDir m) = IsRead mk_dir_of m
 ActionRead (action.Rm m) = IsRead rm_of m
 
--- a member that is a message is what the message's bytes are read as
+-- what holds of each message that these bytes are read as holds of the member that was made of such a message
 of_message : {M A : Type 0} (P : A → Type 0) (read : List ℕ → Result M OpFault) (make : M → A) (bytes : List ℕ) (a : A)
     → (read bytes >>= λ m. Ok (make m)) ≡ Ok a → ((m : M) → read bytes ≡ Ok m → P (make m)) → P a
 of_message P read make bytes a e h =
@@ -245,7 +245,7 @@ action_cases false true b6 bytes a e = of_message ActionRead mk_file_of (λ m. a
 action_cases false false true bytes a e = of_message ActionRead mk_dir_of (λ m. action.MkDir m) bytes a e (λ m h. (bytes, h))
 action_cases false false false bytes a e = of_message ActionRead rm_of (λ m. action.Rm m) bytes a e (λ m h. (bytes, h))
 
--- what a file action does, where that was read, is a message that was read of some bytes
+-- a file action that was read, if its kind is a message, has this message as it was read of some bytes
 pub action_from : (n : ℕ) (xs : List Record) (a : ActionKind) → action_kind_of n xs ≡ Ok a → ActionRead a
 action_from n xs a e = action_cases (n == 4) (n == 5) (n == 6) (joined xs) a e
 
@@ -319,7 +319,7 @@ kind_own (Build bytes) = refl
 kind_own (Merge m) = refl
 kind_own (Diff bytes) = refl
 
--- a member that is a message was read of those bytes
+-- an op's kind was read of these bytes, if it is a message
 abbrev pub KindRead : List ℕ → Kind → Type 0
 KindRead bytes (Exec m) = exec_op_of bytes ≡ Ok m
 KindRead bytes (Source m) = source_op_of bytes ≡ Ok m
@@ -382,7 +382,7 @@ pub op_message_returns : Returns op_message_of op_bytes
 unfolding message_of op_in op_bytes
 op_message_returns = returns_by op_fields op_made op_message_of op_bytes refl (λ bytes. refl) (λ a extra. refl)
 
--- an entry that is read as an op is short enough
+-- an op that an entry is read as after the test of its length is the op that it is read as without this test
 pub entry_cases : (b : Bool) (r : Result Op OpFault) (op : Op) → cond b (Err OverLimit) r ≡ Ok op → r ≡ Ok op
 entry_cases true r op e = absurd cc
 entry_cases false r op e = e

@@ -36,11 +36,11 @@ fold_push f a (x ∷ rs) r = fold_push f (f a x) rs r
 pub since_push : (p : Record → Bool) (rs : List Record) (r : Record) (b : Bool) → p r ≡ b → since p (rs ++ r ∷ []) ≡ cond b [] (since p rs ++ r ∷ [])
 since_push p rs r b e = fold_push (kept p) [] rs r ∙ rw e refl
 
--- one record further
+-- the views of the first i + 1 records are those of the first i, and that of the next one
 pub views_more : (rs : List Held) (i : ℕ) (d : Held) → i < length rs → views (take (i + 1) rs) ≡ views (take i rs) ++ view (get_or rs i d) ∷ []
 views_more rs i d lt = ap views (take_more rs i d lt) ∙ map_push view (take i rs) (get_or rs i d)
 
--- nothing is left after the end
+-- no records are left from the end on
 pub drop_views : (rs : List Held) (start n : ℕ) → n ≤ start → drop start (views (take n rs)) ≡ []
 drop_views rs start n le = drop_all start (views (take n rs)) (omega (arith, length-map (take n rs) view, length-take n rs, le))
 

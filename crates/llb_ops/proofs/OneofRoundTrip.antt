@@ -26,7 +26,7 @@ since_all : (P : Record → Type 0) (p : Record → Bool) (so_far rs : List Reco
 since_all P p so_far [] h k = h
 since_all P p so_far (r ∷ rs) h k = since_all P p (kept p so_far r) rs (kept_all P so_far r (p r) h k.0) k.1
 
--- records that the test of clearing doesn't see may be left out before or after
+-- picking by q after a step of `kept` is the step on the picked records, or no step for a record that q does not pick; q picks all that clear
 kept_mine : (p q : Record → Bool) (so_far : List Record) (r : Record) (a b : Bool) → p r ≡ a → q r ≡ b → (p r ≡ true → q r ≡ true)
     → filter q (kept p so_far r) ≡ cond b (kept p (filter q so_far) r) (filter q so_far)
 kept_mine p q so_far r true true e f wider = rw e refl

@@ -29,7 +29,7 @@ use Rattle.llb_ops.proofs.TableFieldsOfKinds.{HasFrom, LeadsBy, next_is, is_repe
 use Rattle.llb_ops.proofs.TableFieldsOfKinds.{or_true}
 use Rattle.llb_ops.proofs.TableFieldsOfKinds.{has_by, row_at}
 
--- a member without the empty keys and values of a source's attributes
+-- the record of an op's kind without the empty keys and values of a source's attributes
 abbrev lean_kind_record : Kind → Record
 lean_kind_record (Exec m) = kind_record (Exec m)
 lean_kind_record (Source m) = bytes_part 3 (lean_source_bytes m)

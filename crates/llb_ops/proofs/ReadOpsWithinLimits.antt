@@ -43,7 +43,7 @@ use Rattle.llb_ops.proofs.MessageRoundTrips.{ActionRead, action_from, KindRead, 
 use Rattle.llb_ops.proofs.EntryCounting.{still_fit}
 use Rattle.llb_ops.proofs.PayloadSizes.{parts_size, all_size, member_size, each_size}
 
--- the records that a message was read of, whose payloads are together no longer than its bytes
+-- a message is read of records whose payloads are together no longer than the message's bytes
 sized_read_of : {M : Type 0} (shape : Shape) (read : List Record → Result M OpFault) (bytes : List ℕ) (m : M)
     → message_of shape read bytes ≡ Ok m → (rs : List Record) × (read rs ≡ Ok m) × (length (joined rs) ≤ length bytes)
 unfolding message_of
@@ -53,7 +53,7 @@ read_of : {M : Type 0} (shape : Shape) (read : List Record → Result M OpFault)
     → message_of shape read bytes ≡ Ok m → (rs : List Record) × (read rs ≡ Ok m)
 read_of shape read bytes m e = let r = sized_read_of shape read bytes m e in (r.0, r.1)
 
--- the records of the first field, and the limit on the others
+-- if the records of several fields are within the limits, so are those of the first field and those of the others
 first_few : (n : ℕ) (ns : List ℕ) (rs : List Record) → within_limits (n ∷ ns) rs ≡ true → (length (all n rs) ≤ field_limit) × (within_limits ns rs ≡ true)
 first_few n ns rs e =
     let both = and_both (nat_le (length (all n rs)) field_limit) (within_limits ns rs) e in

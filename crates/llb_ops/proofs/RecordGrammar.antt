@@ -56,7 +56,7 @@ parts_found shape bytes rs are e =
 
 -- ---- what is spelled is read
 
--- the records of a message, but for their texts
+-- the records of a message, if their wire types fit; their texts are not checked
 abbrev typed : Shape → List Record → Result (List Record) OpFault
 typed shape rs = cond (wires_fit shape rs) (Ok rs) (Err WrongWireType)
 

@@ -12,7 +12,7 @@ use Rattle.llb_wire.proofs.SpelledRecords.{record_read, record_kept, written_is_
 use Rattle.llb_ops.specs.Records.{Shape, form_of, wire_fits, records_from}
 use Rattle.llb_ops.proofs.RecordSplittingLoop.{parts_skip, drop_pred}
 
--- records in their shortest spelling
+-- the records of a number and of bytes, in their shortest spelling
 abbrev pub number_part : ℕ → ℕ → Record
 number_part n v = record { number = n; wire = wire.Varint; value = v; payload = varint_text v; text = record_text n wire.Varint v [] }
 

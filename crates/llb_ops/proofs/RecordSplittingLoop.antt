@@ -13,7 +13,7 @@ use Rattle.llb_wire.specs.Answer.{◌>>=◌}
 use Rattle.llb_ops.specs.declared.records.Front.{Front}
 use Rattle.llb_ops.specs.Records.{Shape, view, form_of, wire_fits, records_from, IsFront}
 
--- what was read before, and what is still read
+-- the records that were read before, followed by those that are still to be read
 abbrev pub with_front : List Record → Result (List Record) OpFault → Result (List Record) OpFault
 with_front front read = read >>= λ rs. Ok (front ++ rs)
 
@@ -29,7 +29,7 @@ parts_skip shape zero bytes = refl
 parts_skip shape (suc skip) [] = refl
 parts_skip shape (suc skip) (b ∷ bytes) = parts_skip shape skip bytes
 
--- what is read at the start of some bytes, as the next record
+-- a record that is read, as the next record that is there
 abbrev next_is : Result Field WireFault → Result (Option Field) WireFault
 next_is (Ok f) = Ok (Some f)
 next_is (Err e) = Err e
@@ -76,7 +76,7 @@ unfolding records_from
 parts_wrong shape [] f e fails = let h = nothing in absurd cc
 parts_wrong shape (b ∷ bytes) f e fails = let h = some_is (field_at (b ∷ bytes) 0) f (sym (next_cons b bytes) ∙ sym e) in rw (h, fails) refl
 
--- dropping one byte or more drops the first, and of the rest one fewer
+-- dropping n bytes, at least one, drops the first byte and n - 1 of the rest
 pub drop_pred : (n b : ℕ) (bytes : List ℕ) → 0 < n → drop n (b ∷ bytes) ≡ drop (n - 1) bytes
 drop_pred zero b bytes lt = absurd (omega arith)
 drop_pred (suc n) b bytes lt = let e : suc n - 1 ≡ n = omega arith in rw e refl
@@ -91,7 +91,7 @@ parts_more shape (b ∷ bytes) f e fits some =
     let one : drop f.«end» (b ∷ bytes) ≡ drop (f.«end» - 1) bytes = drop_pred f.«end» b bytes some in
     rw (h, fits, one, ← parts_skip shape (f.«end» - 1) bytes) refl
 
--- the record that was taken is before the others
+-- the record that was taken is the first one, and the bytes after it are the rest
 pub is_front : (shape : Shape) (bytes : List ℕ) (f : Field) (front : Front) → Ok (Some f) ≡ next_field bytes 0
     → wire_fits (form_of shape f.number) f.wire ≡ true → IsWithin bytes 0 f
     → view front.record ≡ record_of bytes f → front.after.now ≡ drop f.«end» bytes → IsFront shape bytes front
@@ -102,7 +102,7 @@ is_front shape bytes f front e fits within seen left = record {
   shorter = omega (arith, within.begins, within.ordered, within.inside, ap length left, length-drop f.«end» bytes);
 }
 
--- the loop goes on, and ends
+-- ---- the loop goes on, and ends
 
 -- where a record is read, it goes after those before it, and the total stays
 pub goes_on : (shape : Shape) (front : List Record) (r : Record) (bytes after : List ℕ) (total : Result (List Record) OpFault)

@@ -64,7 +64,7 @@ pub filter_none : {X : Type 0} (p : X → Bool) (xs : List X) → AllByRecursion
 filter_none p [] h = refl
 filter_none p (x ∷ xs) h = let e = h.0 in rw e (filter_none p xs h.1)
 
--- a pick among what a wider test picks
+-- the step of `filter_narrow`: it still holds with one more item
 narrow_more : {X : Type 0} (p q : X → Bool) (x : X) (xs : List X) (a b : Bool) → p x ≡ a → q x ≡ b → (p x ≡ true → q x ≡ true)
     → filter p (filter q xs) ≡ filter p xs → filter p (filter q (x ∷ xs)) ≡ filter p (x ∷ xs)
 narrow_more p q x xs true true e f wider h = rw (f, e) (ap (λ ys. x ∷ ys) h)
@@ -116,7 +116,7 @@ has_right (n ∷ ns) ms k e = or_right (eqb n k) (has (ns ++ ms) k) (has_right n
 pub has_one : (n k : ℕ) → eqb k n ≡ true → has (n ∷ []) k ≡ true
 has_one n k e = or_left (eqb n k) false (eq-eqb n k (sym (eqb-true k n e)))
 
--- no number is in both
+-- no number is in both lists
 abbrev pub apart : List ℕ → List ℕ → Bool
 apart ns ms = list_all (λ n. not (has ms n)) ns
 

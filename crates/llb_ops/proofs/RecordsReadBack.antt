@@ -26,7 +26,7 @@ ok_of xs = Ok xs
 pub ok_list : (xs ys : List Record) → ok_of xs ≡ ok_of ys → xs ≡ ys
 ok_list xs ys e = cc
 
--- a value that is given after a test is the one that was tested, and the test was passed
+-- a result that is a value only if a test is passed: the value is the tested one, and the test was passed
 pub guard_ended : {A : Type 0} (b : Bool) (d : OpFault) (x y : A) → cond b (Ok x) (Err d) ≡ Ok y → (b ≡ true) × (x ≡ y)
 guard_ended true d x y e = (refl, cc)
 guard_ended false d x y e = absurd cc

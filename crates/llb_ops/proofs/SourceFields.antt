@@ -14,7 +14,7 @@ use Rattle.llb_ops.proofs.SourceRoundTrip.{attribute_entry_made, attribute_entry
 use Rattle.llb_ops.proofs.FieldOccurrences.{none_repeated}
 use Rattle.llb_ops.proofs.TableFieldsOfKinds.{HasFrom, next_is, is_repeated, Told, told_both, told_end, told_bytes, told_key, tells_messages, has_by, row_at}
 
--- an entry without its key and its value where they are empty
+-- the bytes of an entry, without its key if that is empty, and without its value if that is empty
 unfoldable pub lean_entry_bytes : AttributeEntry → List ℕ
 lean_entry_bytes m = bytes_field 1 m.key ++ bytes_field 2 m.value ++ m.extra
 

@@ -42,14 +42,14 @@ pub goes_on : {M : Type 0} (r : Result (List AttributeEntry) OpFault) (k : List 
 goes_on (Ok es) k = refl
 goes_on (Err f) k = refl
 
--- what was read as attributes was entries that settle so
+-- attributes that were read are what the entries settle to that were read
 pub was_settled : (xs : List Record) (a : List Held) → attributes_read xs ≡ Ok a
     → (es : List AttributeEntry) × (each attribute_entry_of xs ≡ Ok es) × (settled es ≡ a)
 was_settled xs a e =
     let es = bind_ok (each attribute_entry_of xs) (λ es. Ok (settled es)) a e in
     (es.0, es.1, ok_is (settled es.0) a es.2)
 
--- where each entry was read of some bytes, so was each attribute that is held of them
+-- if each entry was read of some bytes, so was the entry of each attribute to which the entries settle
 pub was_read : (es : List AttributeEntry) (a : List Held) → settled es ≡ a → AllByRecursion (IsRead attribute_entry_of) es
     → AllByRecursion (IsRead attribute_entry_of) (map entry_of a)
 was_read es a is h =
@@ -60,7 +60,7 @@ was_read es a is h =
       all_entries [] h = tt
       all_entries (p ∷ ps) h = (h.0, all_entries ps h.1)
 
--- entries that are written so, whichever way their keys and values are
+-- attributes are read again of their written entries, if `write` writes each entry so that it is read again
 pub attributes_back : (write : AttributeEntry → List ℕ) (n : ℕ) (xs : List Record) (a : List Held) → Returns attribute_entry_of write
     → attributes_read xs ≡ Ok a → AllByRecursion IsShort (some_messages write n (map entry_of a))
     → attributes_read (some_messages write n (map entry_of a)) ≡ Ok a

@@ -33,14 +33,14 @@ use Rattle.llb_ops.proofs.FieldOccurrences.{NoneOften, numbered, none_often, non
 use Rattle.llb_ops.proofs.LeadingTableFields.{From, IsMessage, Tells, AtMost, tells_nothing, tells_left_out, tells_then, tells_number, tells_bytes}
 use Rattle.llb_ops.proofs.LeadingTableFields.{tells_message}
 
--- what holds of a message's canonical bytes, and of other bytes for it without empty keys and values of entries
+-- for each message that is read: its canonical bytes, and the bytes `lean` without empty keys and values of entries, are as the table says
 abbrev pub HasFrom : {M : Type 0} → MessageName → (List ℕ → Result M OpFault) → (M → List ℕ) → (M → List ℕ) → Type 0
 HasFrom {M} name read write lean = (bytes : List ℕ) (m : M) → read bytes ≡ Ok m → IsMessage name (write m) (lean m)
 
 abbrev pub items_ok : List (List ℕ) → Result (List (List ℕ)) OpFault
 items_ok items = Ok items
 
--- records that lead from one place among the fields to another, and one record that does
+-- records (`Leads`), or one record (`LeadsBy`), that lead from one place among the fields to another
 abbrev pub Leads : MessageName → ℕ → Bool → ℕ → Bool → List Record → List Record → Type 0
 Leads m last set next then_set xs lean = Tells m last set next then_set (numbered xs) (spelled xs) (spelled lean)
 
@@ -154,7 +154,7 @@ tells_some_bytes m last set row (b ∷ held) next fits plain =
     rw (e, append-nil (bytes_part row.1.number (b ∷ held)).text)
     (tells_bytes m last set row (b ∷ held) next fits (some_is_not_empty b held (may_be_empty row.1)) plain)
 
--- the bytes of a text or byte string that was read
+-- the bytes that a field for texts was read as are UTF-8 if those of its good records are
 pub read_text : (shape : Shape) (n : ℕ) (rs : List Record) (a : List ℕ) → AllByRecursion (IsGood shape) rs → text_ok (form_of shape n) [] ≡ true
     → ok_of (payload (all n rs)) ≡ ok_of a → text_ok (form_of shape n) a ≡ true
 read_text shape n rs a good empty e =
@@ -162,7 +162,7 @@ read_text shape n rs a good empty e =
     subst (λ (b : List ℕ). text_ok (form_of shape n) b ≡ true) (ok_is (payload (all n rs)) a e)
     (last_payload (λ b. text_ok (form_of shape n) b ≡ true) (all n rs) empty texts)
 
--- what a field may hold
+-- any bytes that the field's form allows fit the kind of the field's row
 abbrev pub Holds : MessageName → Row → Type 0
 Holds m row = (held : List ℕ) → text_ok (form_of (shape_of m) row.1.number) held ≡ true → IsBytesOf row.1.kind held
 
@@ -176,7 +176,7 @@ told_bytes m last set row holds next plain range fits empty = record {
   few = λ rs a good e w. few_bytes row.1.number a;
 }
 
--- the key or the value of an entry, which is written also where it is empty, and left out without those
+-- the key or the value of an entry leads past its field: canonical bytes have it even if it is empty, lean ones only if it is not
 pub tells_key : (m : MessageName) (last : ℕ) (set : Bool) (row : Row) (held : List ℕ) → IsNext m last set row → IsBytesOf row.1.kind held
     → row.1.of_entry ≡ true → may_be_empty row.1 ≡ true
     → Leads m last set row.1.number (set || row.1.member) (bytes_part row.1.number held ∷ []) (some_bytes row.1.number held)
@@ -363,7 +363,7 @@ no_fields m last set rs good = record {
   lean = refl;
 }
 
--- a message that is given by its fields
+-- a message has fields by the table if what it is read of and written to are its fields
 pub has_by : {m : MessageName} {W A : Type 0} {next : ℕ} {then_set : Bool} (t : Told m W A 0 false next then_set) (make : A → List ℕ → W)
     (read : List ℕ → Result W OpFault) (write lean : W → List ℕ)
     → ((bytes : List ℕ) → read bytes ≡ (parts (shape_of m) bytes >>= message_run t.field make))

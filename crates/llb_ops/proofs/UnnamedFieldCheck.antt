@@ -11,7 +11,7 @@ use Rattle.llb_ops.specs.Table.{shape_of}
 use Rattle.llb_ops.specs.Records.{form_of, text_ok, text_fits, texts_fit, parts, records_from}
 use Rattle.llb_ops.specs.CanonicalFields.{are_unnamed, only_unnamed}
 
--- records whose texts are looked at
+-- the records that were read, unless one of their texts is not UTF-8
 abbrev settled : MessageName → Result (List Record) OpFault → Result (List Record) OpFault
 settled m read = read >>= λ rs. if texts_fit (shape_of m) rs then Ok rs else Err NotUtf8
 

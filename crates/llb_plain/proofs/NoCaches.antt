@@ -1,4 +1,4 @@
--- The least vertex that mounts a cache; and a vertex of a graph where none does.
+-- The search for the first vertex that mounts a cache; and what a vertex that mounts none shows.
 use Rattle.std.proofs.Common.{◌≡◌, ℕ, zero, suc, ◌+◌, List, [], ◌∷◌, map, drop, refl, sym, ap, ◌∙◌}
 use Rattle.std.specs.Prelude.{Bool, Option, Some, None, true, false, slice_get, if◌then◌else◌}
 use Rattle.llb_ops.specs.declared.op.Kind.{Kind}
@@ -11,11 +11,11 @@ use Rattle.llb_model.proofs.Outcomes.{no_needs}
 use Rattle.llb_execution.specs.ModelValues.{shown_in}
 use Rattle.llb_plain.specs.Evaluation.{cache_from}
 
--- none of the vertices so far mounts one
+-- a search for a cache mount from vertex i on finds what the search from vertex 0 on finds
 abbrev pub AsCache : List Vertex → ℕ → Type 0
 AsCache vs i = cache_from i (drop i vs) ≡ cache_from 0 vs
 
--- where none is found, none has one
+-- if the search finds no vertex that mounts a cache, no vertex mounts one
 pub none_has : (k : ℕ) (vs : List Vertex) (i : ℕ) (v : Vertex) → cache_from k vs ≡ None → slice_get vs i ≡ Some v → has_cache v ≡ false
 none_has k [] i v none at = absurd cc
 none_has k (u ∷ vs) i v none at = by_test (has_cache u) refl none i at (none_has (k + 1) vs)
@@ -26,7 +26,7 @@ none_has k (u ∷ vs) i v none at = by_test (has_cache u) refl none i at (none_h
     by_test false is none zero at rest = let same : u ≡ v = cc in ap has_cache (sym same) ∙ is
     by_test false is none (suc j) at rest = rest j v none at
 
--- the workspace of a vertex without one shows none
+-- the workspace of a vertex that mounts no cache shows no cache
 pub bare_on : (locals : List Local) (v : Vertex) (k : Option Kind) (inputs : List TreeMap) → has_cache v ≡ false → shown_in (workspace_on locals v k inputs)
     ≡ []
 bare_on locals v (Some (kind.Source s)) inputs none = refl

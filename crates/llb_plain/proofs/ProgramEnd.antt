@@ -12,7 +12,7 @@ use Rattle.llb_model.proofs.ProgramPrefixes.{finished_whole}
 none_before : (n : ℕ) → 0 + n ≡ n
 none_before n = omega arith
 
--- the first n micro-steps leave what n further ones leave of the work that is begun with
+-- the work after n further micro-steps (`further`), counted from the start, is that after the first n micro-steps of the program (`part`)
 first_are : (steps : List MicroStep) (work : Work) (n : ℕ) → further steps 0 (part steps work 0) n ≡ part steps work n
 unfolding part
 first_are steps work zero = refl
@@ -20,7 +20,7 @@ first_are steps work (suc n) =
     further_last steps 0 (part steps work 0) n ∙ ap (λ j. go_on steps j (further steps 0 (part steps work 0) n)) (none_before n)
     ∙ ap (go_on steps n) (first_are steps work n)
 
--- where n micro-steps are there and no more, they leave what the whole program leaves
+-- if exactly n micro-steps can be done from the start, they leave what the whole program leaves
 whole_is : (steps : List MicroStep) (work : Work) (n : ℕ) → AreLeft steps 0 (part steps work 0) n → whole steps work ≡ further steps 0 (part steps work 0) n
 whole_is steps work n left =
     let over : is_over steps n (part steps work n) ≡ true

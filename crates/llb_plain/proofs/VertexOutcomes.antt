@@ -10,7 +10,7 @@ use Rattle.llb_model.proofs.Lists.{drop_at}
 
 -- ---- outcomes by number
 
--- those so far, and the vertices that are left
+-- `before` has the outcomes of the vertices below k: extended by those of the vertices from k on, it is the list of all outcomes
 abbrev pub OutcomesSoFar : Build → ℕ → List Outcome → Type 0
 OutcomesSoFar b k before = by_number (next_outcome b) before (drop k b.graph.vertices) ≡ outcomes b
 

@@ -53,7 +53,7 @@ module _ (above : TreeMap) (at : List (List ℕ)) where
       by_tie true o is = refl
       by_tie false o is = is
 
-  -- an entry more below the path
+  -- `HasBelow` still holds after an entry is put at path x of the directory's tree, and at the same place in the whole tree
   with_more : (t dir : TreeMap) (x : List (List ℕ)) (e : Entry) → HasBelow t above at dir
       → HasBelow (finite.insert t (at ++ x) e) above at (finite.insert dir x e)
   with_more t dir x e has = record {
@@ -68,20 +68,20 @@ module _ (above : TreeMap) (at : List (List ℕ)) where
       beside q out true is =
           absurd (true≢false (sym (within-append at x) ∙ ap (is_within at) (sym (same_path q (at ++ x) is)) ∙ out))
 
-  -- the directory goes back, and the tree is whole
+  -- once the directory's tree is put back at its path, the result is the whole tree
   pub goes_back : (t dir new : TreeMap) → HasBelow t above at dir → ((q : List (List ℕ)) → finite.get new (at ++ q) ≡ finite.get dir q)
       → ((q : List (List ℕ)) → is_within at q ≡ false → finite.get new q ≡ finite.get above q) → new ≡ t
   goes_back t dir new has inside outside = finite.same_map path_cmp-IsTotalOrder path_cmp-IsAntisymmetric new t
       (by_place at (λ q. finite.get new q ≡ finite.get t q) (λ q. inside q ∙ sym (has.inside q)) (λ q out. outside q out ∙ sym (has.outside q out)))
 
--- ---- a file in it
+-- ---- a file in the directory
 
 -- the text of a path that is not the root's is that of its names
 path_names : (p : List (List ℕ)) → p ≢ [] → path_text p ≡ names_text p
 path_names [] named = absurd (named refl)
 path_names (n ∷ p) named = refl
 
--- a path's text that is a directory's and one name more
+-- if the names of a path are spelled as those of a directory and then one name more, the path is the directory's path and this name
 path_is : (p at : List (List ℕ)) (n : List ℕ) → IsPath p → IsPath at → is_name n ≡ true → names_text p ≡ names_text at ++ 47 ∷ n → p ≡ at ++ n ∷ []
 path_is p at n path front name text =
     let whole : List (List ℕ) = at ++ n ∷ [] in
@@ -119,11 +119,11 @@ put_gives d new n m content is =
     one_value next new same
 
 module _ (t : TreeMap) (tree : IsTree t) (p : List (List ℕ)) (e : Entry) (stands : IsRow (p, e)) (free : finite.get t p ≡ None) where
-  -- a path that is free is not the root's
+  -- a path at which the tree has nothing is not the root
   not_root : p ≢ []
   not_root at = let one : ◌≡◌ {A = Option Entry} None (Some (Dir tree.root.0)) = sym free ∙ ap (finite.get t) at ∙ tree.root.1 in absurd cc
 
-  -- the text of such a path is that of its names
+  -- so the text of the path is that of its names
   text_is : (m : MetaValue) (o : Option (List ℕ)) (path : List ℕ) → (m, o, path) ≡ parts_from (p, e) → path ≡ names_text p
   text_is m o path same = ap (λ (f : Fields). f.2) same ∙ by_entry e ∙ path_names p not_root
     where
@@ -146,12 +146,12 @@ module _ (t : TreeMap) (tree : IsTree t) (p : List (List ℕ)) (e : Entry) (stan
 
 -- ---- a row that goes to the whole tree
 
--- the row that was read is in the result, where its path was free
+-- if nothing is at the path of the row that was read, the resulting tree has this row
 abbrev More : Option Growing → Parts → TreeMap → List (List ℕ) × Entry → Type 0
 More result x w read = IsTree w → finite.get w read.0 ≡ None → x.path.now ≡ names_text read.0 → put_row w read ≡ Ok (finite.insert w read.0 read.1)
     → IsGrownIfAny result (finite.insert w read.0 read.1)
 
--- and so is the line's row, which is the same
+-- so the resulting tree has the line's row, which is equal to the row that was read
 pub row_more : (t w : TreeMap) (row read : List (List ℕ) × Entry) (x : Parts) (result : Option Growing) → w ≡ t → row ≡ read → Follows t row x
     → More result x w read → IsGrownIfAny result (finite.insert t row.0 row.1)
 row_more t w row read x result same own follows more =

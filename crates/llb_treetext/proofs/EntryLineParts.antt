@@ -308,7 +308,7 @@ line_gives line x is =
 
 -- ---- what is decided about a line
 
--- the parts that a line's text is taken apart into are its entry's, and where there are none the line is no entry's
+-- the parts into which a line is split are those of an entry; if it can't be split, the line is the line of no entry
 pub spells : (line text : List ℕ) (o : Option Parts) → text ≡ line → option_map parts_seen o ≡ parts_in text → Spells line o
 spells line text None same is = λ row stands own.
     let one : ◌≡◌ {A = Option Fields} None (Some (parts_from row)) = is ∙ ap parts_in (same ∙ own) ∙ parts_are row stands in absurd cc
@@ -316,16 +316,16 @@ spells line text (Some x) same is =
     let (row, stands, own, parts) = line_gives text (parts_seen x) (sym is) in
     (row, stands, sym same ∙ own, parts)
 
--- bytes that are no row's line, whatever follows it, begin with no row
+-- bytes that are not the line of a row followed by any bytes begin with the line of no row
 pub begins_none : (bytes : List ℕ) → ((row : Pair) (later : List ℕ) → IsRow row → bytes ≢ line_of row ++ later) → (row : Pair) → ¬ Begins bytes row
 begins_none bytes none row begins = none row begins.1.0 begins.0 begins.1.1
 
--- ---- the entry of parts
+-- ---- the row that is made of parts
 
 module _ (row : Pair) (x : Fields) (o : Option Pair) (stands : IsRow row) (parts : x ≡ parts_from row) (gives : o ≡ row_from x) where
   made : o ≡ Some row
   made = gives ∙ ap row_from parts ∙ row_from_is row stands
 
-  -- and what they make is the row
+  -- a row that is made of the parts of another row is equal to it
   pub row_made : (read : Pair) → o ≡ Some read → row ≡ read
   row_made read is = some_is row read (sym made ∙ is)

@@ -62,7 +62,7 @@ module _ (c : ℕ) where
       ∙ (λ i. Some (take (at i) (w ++ c ∷ rest), drop (at i + 1) (w ++ c ∷ rest)))
       ∙ (λ i. Some (take_front w rest i, drop_front w rest (length w + 1) (omega arith) i))
 
--- bytes above a space, and above the control bytes
+-- all bytes are above a space (`Solid`), or at least a space, and so no control bytes below it (`Plain`)
 abbrev pub Solid : List ℕ → Type 0
 Solid w = All (λ b. 33 ≤ b) w
 
@@ -75,7 +75,7 @@ solid_plain w solid = All-weaker (λ b. 33 ≤ b) (λ b. 32 ≤ b) (λ b h. omeg
 no_space : (w : List ℕ) → Solid w → All (λ b. nat_eq b 32 ≡ false) w
 no_space w solid = All-weaker (λ b. 33 ≤ b) (λ b. nat_eq b 32 ≡ false) (λ b h. ne_eqb b 32 (λ e. omega arith)) w solid
 
--- a text of bytes that are none below a space has no line end
+-- a text with no byte below a space has no line end
 pub no_end : (w : List ℕ) → Plain w → All (λ b. nat_eq b 10 ≡ false) w
 no_end w plain = All-weaker (λ b. 32 ≤ b) (λ b. nat_eq b 10 ≡ false) (λ b h. ne_eqb b 10 (λ e. omega arith)) w plain
 
@@ -360,7 +360,7 @@ digit_low c d is = by_cases (nat_lt c 128) refl
     by_cases true t = ltb-true c 128 t
     by_cases false t = let e : ◌≡◌ {A = Option ℕ} (Some d) None = sym is ∙ none (ltb-false c 128 t) in absurd cc
 
--- a digit of the table, and 0, which is read past its end
+-- a digit of the table is ASCII, and so is the 0 that is read past the end of the table
 digit_ascii : (k : ℕ) → get_or lower_digits k 0 < 128
 digit_ascii k = by_cases (nat_lt k 16) refl
   where

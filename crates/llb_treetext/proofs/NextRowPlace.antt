@@ -98,7 +98,7 @@ module _ (t : TreeMap) (tree : IsTree t) (place : Place) (last : IsLast t place)
   order_is p names path same =
       (λ i. is_lt (trail_cmp (last.names i) (same i))) ∙ ap is_lt (trail_order last.row.0 p last_row.allowed.path.named path.named) ∙ sym (comes p)
 
-  -- what is there is not after all others
+  -- a path that the tree has does not come after all its paths
   not_behind : (d : List (List ℕ)) (e : Entry) → finite.get t d ≡ Some e → comes_next (finite.entries t) d ≡ false
   not_behind d e is = go (comes_next (finite.entries t) d) refl (finite.entries t) refl
     where
@@ -145,7 +145,7 @@ module _ (t : TreeMap) (tree : IsTree t) (place : Place) (last : IsLast t place)
       each_row : (r : List (List ℕ)) → last.row.0 ≡ d ++ r → b ≡ opens (names_text r) place.is_dir
       each_row r is = each (names_text r) (last.names ∙ ap names_text is ∙ names_split d r ∙ ap (λ x. x ++ names_text r) (sym dir_is))
 
-      -- the directory is there
+      -- if the test finds the directory, the walk to the path passes
       pub walks : b ≡ true → walk (finite.get t) (d ++ n ∷ []) ≡ Ok tt
       walks is =
           let (later, text, shows) = holds is in
@@ -153,7 +153,7 @@ module _ (t : TreeMap) (tree : IsTree t) (place : Place) (last : IsLast t place)
           (opens_tail later place.is_dir shows) (sym last.names ∙ text ∙ ap (λ x. x ++ later) dir_is) in
           opened r split (sym (each_row r split) ∙ is)
 
-      -- or it is not
+      -- if the test does not find the directory, the walk to the path fails
       pub walks_not : b ≡ false → walk (λ q. finite.find path_cmp q (finite.entries t)) (d ++ n ∷ []) ≢ Ok tt
       walks_not is walks =
           let dir = walk_dir (finite.get t) d n (ap (λ look. walk look (d ++ n ∷ [])) (λ i q. finite.get-entries t q i) ∙ walks) in
@@ -206,7 +206,7 @@ module _ (t : TreeMap) (tree : IsTree t) (place : Place) (last : IsLast t place)
         ),
       )
 
-      -- its directory is there, so the row is put and is the last one now
+      -- its directory is there, so the row is put into the tree, and is now the last one
       pub goes_to : (rest later : List ℕ) (new : Place) → rest ≡ line_of row ++ later → new.names.now ≡ names_text row.0 → new.is_dir ≡ is_dir row.1 → h ≡ true
           → (finite.get t row.0 ≡ None) × (put_row t row ≡ Ok (finite.insert t row.0 row.1))
           × GoesOn t (finite.insert t row.0 row.1) rest later × IsLast (finite.insert t row.0 row.1) new
@@ -239,7 +239,7 @@ seen_kind f None = refl
 seen_kind f (Some x) = refl
 
 module _ (row : Pair) (is : IsRow row) (x : Parts) (parts : parts_seen x ≡ parts_from row) where
-  -- the names that are kept of a line are those of its row's path
+  -- the names that the place of a line keeps are those of its row's path
   pub place_names : (names : List ℕ) → names ≡ trail x.path.now → names ≡ names_text row.0
   place_names names same = same ∙ ap (λ (f : Fields). trail f.2) parts ∙ ap trail (fields_path row) ∙ trail_is row.0 is.allowed.path
 

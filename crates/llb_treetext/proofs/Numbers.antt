@@ -83,7 +83,7 @@ pub decimal_written : (n : ℕ) → n < 2 ^ 32 → decimal_in (decimal n) ≡ So
 decimal_written n small = ap (λ o. on o (λ k. cond (pointwise nat_eq (decimal n) (decimal k)) (Some k) None)) (number_written n small)
     ∙ ap (λ t. cond t (Some n) None) ((bytes_decides (decimal n) (decimal n)).1 refl)
 
--- what two lists end in
+-- ---- equal lists have the same last element, and the same elements before it
 
 pub last_same : (xs ys : List ℕ) (x y : ℕ) → xs ++ x ∷ [] ≡ ys ++ y ∷ [] → x ≡ y
 last_same [] [] x y same = cc

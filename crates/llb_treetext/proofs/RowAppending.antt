@@ -74,7 +74,7 @@ module _ (t : TreeMap) (tree : IsTree t) (row : Pair) (is : IsRow row) (next : c
   behind : comes_next (some_rows.0 ∷ some_rows.1.0) row.0 ≡ true
   behind = ap (λ es. comes_next es row.0) (sym some_rows.1.1) ∙ next
 
-  -- what comes next after all entries of a tree is not in it yet
+  -- a path that may come next after all entries of a tree is not in the tree yet
   pub not_there : finite.get t row.0 ≡ None
   not_there = finite.get-entries t row.0 ∙ ap (finite.find path_cmp row.0) some_rows.1.1 ∙ find_behind some_rows.0 some_rows.1.0 row.0 sorted behind
 

@@ -27,7 +27,7 @@ file_is_row p m content path meta bytes named = record { allowed = record { path
 
 -- ---- the first line
 
--- a line and what is after it
+-- the line of a row, and what follows it, split before the line feed
 abbrev grouped_line : (row : Pair) (later : List ℕ) → line_of row ++ later ≡ row_text row ++ 10 ∷ later
 grouped_line row later = append_assoc (row_text row) (10 ∷ []) later
 
@@ -79,7 +79,7 @@ module _ (bytes : List ℕ) where
         ap (λ t. cond {A = Option (List ℕ × List ℕ)} t (Some (before_first (λ b. nat_eq b 10) bytes, after_first (λ b. nat_eq b 10) bytes)) None) found.1
         ∙ ap (λ n. Some (take n bytes, drop (n + 1) bytes)) found.0
 
-    -- nor do they where what is before the first line end is no row's text
+    -- if the bytes before the first line end are the text of no row, the bytes do not begin with a line
     pub no_first_line : ((row : Pair) → IsRow row → take end bytes ≢ row_text row) → (row : Pair) (later : List ℕ) → IsRow row → bytes ≢ line_of row ++ later
     no_first_line none row later stands same =
         let one : ◌≡◌ {A = Option (List ℕ × List ℕ)} (Some (take end bytes, drop (end + 1) bytes)) (Some (row_text row, later)) =
@@ -93,7 +93,7 @@ module _ (bytes : List ℕ) where
         split_at_first (λ b. nat_eq b 10) bytes 0 first
         ∙ (λ i. take (found.0 i) bytes ++ (eqb-true _ 10 (passes_at_first (λ b. nat_eq b 10) bytes 0 first) i ∷ drop (found.0 i + 1) bytes))
 
-    -- where it is a row's text, they begin with the row's line
+    -- if the bytes before the first line end are the text of a row, the bytes begin with the row's line
     pub has_first_line : (row : Pair) (rest later : List ℕ) → rest ≡ drop end bytes → later ≡ drop 1 rest → take end bytes ≡ row_text row
         → bytes ≡ line_of row ++ later
     has_first_line row rest later one two same =

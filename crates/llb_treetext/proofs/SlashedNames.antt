@@ -82,7 +82,7 @@ last_slash [] (c ∷ b) x y nx ny same = absurd (none_inside b y x nx cc)
 last_slash (c ∷ a) [] x y nx ny same = let rest : y ≡ a ++ 47 ∷ x = cc in absurd (none_inside a x y ny rest)
 last_slash (c ∷ a) (d ∷ b) x y nx ny same = let one : c ≡ d = cc in let rest = last_slash a b x y nx ny cc in λ i. one i ∷ rest i
 
--- ---- names before names
+-- ---- names at the beginning of other names
 
 head_not : (b : ℕ) (m s t : List ℕ) → NoSlash (b ∷ m) → IsTail s → s ≡ b ∷ t → ⊥
 head_not b m s t none (inl nil) same = let e : ◌≡◌ {A = List ℕ} [] (b ∷ t) = sym nil ∙ same in absurd cc
@@ -164,7 +164,7 @@ trail_order (n ∷ q) (m ∷ p) nq np =
     (name_ranks m (All-head (λ name. is_name name ≡ true) m p np)) (names_tail q) (names_tail p)
     ∙ ap (ordering_then (name_cmp n m)) (trail_order q p (All-tail (λ name. is_name name ≡ true) n q nq) (All-tail (λ name. is_name name ≡ true) m p np))
 
--- ---- where one ends
+-- ---- comparing two texts of names, where one of them ends
 
 drop_past : (xs : List ℕ) (k : ℕ) → length xs ≤ k → drop k xs ≡ []
 drop_past [] zero le = refl
@@ -173,11 +173,11 @@ drop_past (x ∷ xs) zero le = absurd (omega (arith, le))
 drop_past (x ∷ xs) (suc k) le = drop_past xs k (omega (arith, le))
 
 module _ (first second : List ℕ) (k : ℕ) (so_far : trail_cmp first second ≡ trail_cmp (drop k first) (drop k second)) where
-  -- nothing is left of the second
+  -- the second text has ended, and the first goes on: the first is not before the second
   pub longer : k < length first → length second ≤ k → false ≡ is_lt (trail_cmp first second)
   longer one le = sym (ap is_lt (so_far ∙ (λ i. trail_cmp (drop-cons first k 0 one i) (drop_past second k le i))))
 
-  -- nothing is left of the first
+  -- the first text has ended: it is before the second exactly if it is shorter
   pub ended : k ≡ length first → (b : Bool) → b ≡ nat_lt (length first) (length second) → b ≡ is_lt (trail_cmp first second)
   ended end b is = is ∙ sym (ap is_lt (so_far ∙ ap (λ x. trail_cmp x (drop k second)) (drop_past first k (omega (arith, end)))) ∙ by_left second k end)
     where
@@ -187,7 +187,7 @@ module _ (first second : List ℕ) (k : ℕ) (so_far : trail_cmp first second �
         | inr past ↦ ap (λ x. is_lt (trail_cmp [] x)) (drop_past second k past) ∙ sym (le-ltb (length first) (length second) (omega (arith, end, past)))
       ]
 
--- no bytes put before others leave these as they are
+-- an empty list before other bytes leaves these bytes as they are
 pub no_bytes : (rest back : List ℕ) → length rest ≡ 0 → rest ++ back ≡ back
 no_bytes [] back is = refl
 no_bytes (x ∷ rest) back is = absurd (omega (arith, is))

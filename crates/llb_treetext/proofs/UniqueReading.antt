@@ -1,5 +1,5 @@
--- Two accounts of one text agree: of two lists of rows at its start one goes on where the other ends, and a row of a tree
--- is no faulty one.
+-- Two readings of one text agree: of two lists of rows whose lines begin it, one begins the other, and no row of a tree
+-- is faulty.
 use Rattle.std.proofs.Common.{◌≡◌, ◌≢◌, ℕ, zero, suc, Bool, true, false, cond, List, [], ◌∷◌, ◌++◌, length, map, Option, Some, None}
 use Rattle.std.proofs.Common.{is_some, Ok, Err, T, refl, sym, ap, subst, ◌∙◌, true≢false, arith, append_assoc, length-append, ◌⊎◌, inl, inr}
 use Rattle.std.specs.Prelude.{slice_get}
@@ -73,7 +73,7 @@ before_rows rows (inr (t, tree, same)) = subst AllRows (sym same) (tree_rows t t
 
 -- ---- two lists of rows at the start of one text
 
--- one goes on where the other ends
+-- the rows `ys` are the rows `xs` and one or more after them
 record Longer (xs ys : List Pair) (a b : List ℕ) : Type 0 where
   row : Pair
   more : List Pair
@@ -165,7 +165,7 @@ module _ (t : TreeMap) (tree : IsTree t) (rows : List Pair) (row : Pair) (more :
       (λ r lt. sym (finite.get-entries t r ∙ ap (finite.find path_cmp r) same ∙ find_front r rows (row ∷ more) (not_here r lt))))
       ∙ tree.closed row.0 (ap is_some (there t tree (length rows) row (ap (λ es. slice_get es (length rows)) same ∙ at_end rows row more)))
 
-  -- it is not faulty
+  -- the next row of a tree has no fault
   no_fault : (rest later : List ℕ) (e : TextFault) → IsRow row → rest ≡ line_of row ++ later → ¬ IsFault rows rest e
   no_fault rest later (BadLine n) is text fault = fault.1 row (is, (later, text))
   no_fault rest later (Order n) is text (number, (other, begins, out)) =

@@ -15,7 +15,7 @@ use Rattle.llb_applet.proofs.CallWordGathering.{calls_in, refuses_last, gives_la
 use Rattle.llb_applet.proofs.call.judge_text.Goals as goal
 use Rattle.llb_applet.proofs.call.judge_text.Goals.{After-into_iter-part-iterator}
 
--- the loop goes over the parts of the text
+-- the loop visits the parts of the text
 goes_over : (c : After-into_iter-part-iterator) → YieldsList (split_steps FindsChar (λ a b. b ≡ a))
     (λ x. x.now) c.into_iter-part-iterator.result (parts_of c.args.text.now)
 goes_over c =

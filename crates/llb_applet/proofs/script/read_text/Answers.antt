@@ -16,7 +16,7 @@ use Rattle.llb_applet.proofs.CallWordGathering.{calls_in, behind_none, ahead_las
 use Rattle.llb_applet.proofs.script.read_text.Goals as goal
 use Rattle.llb_applet.proofs.script.read_text.Goals.{After-into_iter-part-iterator, In-None}
 
--- the loop goes over the parts of the text
+-- the loop visits the parts of the text
 goes_over : (c : After-into_iter-part-iterator) → YieldsList (split_steps FindsChar (λ a b. b ≡ a))
     (λ x. x.now) c.into_iter-part-iterator.result (parts_of c.args.text.now)
 goes_over c =
@@ -60,7 +60,7 @@ returns-in_err-take c =
     ∙ ap (ahead c.loop-part.reading) here
     ∙ c.in_err-take.ensures (flat_map some_word (drop (n + 1) parts)) known)
 
--- what the call at hand makes is the script of the text
+-- after the last part, the commands so far and the command of the current call are the script of the text
 ends : (c : In-None) → YieldsList (split_steps FindsChar (λ a b. b ≡ a)) (λ x. x.now) c.into_iter-part-iterator.result
     (parts_of c.args.text.now) → commands_of 0 (calls_of c.args.text.now) ≡ with_call c.loop-part.reading
 ends c over =

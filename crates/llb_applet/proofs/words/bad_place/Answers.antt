@@ -10,7 +10,7 @@ use Rattle.llb_applet.proofs.FirstBadPosition.{at_drop, spread, spread-split, ba
 use Rattle.llb_applet.proofs.words.bad_place.Goals as goal
 use Rattle.llb_applet.proofs.words.bad_place.Goals.{After-into_iter-part-iterator}
 
--- the loop goes over the parts of the text
+-- the loop visits the parts of the text
 goes_over : (c : After-into_iter-part-iterator) → YieldsList (split_steps FindsChar (λ a b. b ≡ a))
     (λ x. x.now) c.into_iter-part-iterator.result (parts_of c.args.text.now)
 goes_over c =

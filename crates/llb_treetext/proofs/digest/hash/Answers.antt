@@ -1,4 +1,4 @@
--- Each line is fed after those before it.
+-- Each line is hashed after the lines before it.
 use Rattle.std.proofs.Common.{sym, ap, ◌∙◌}
 use Rattle.sha2.specs.Sha256.{sha256}
 use Rattle.llb_treetext.specs.TreeText.{line_of, tree_text}

@@ -1,4 +1,4 @@
--- The lines of the entries so far are fed.
+-- The lines of the entries so far are hashed.
 use Rattle.std.proofs.Common.{◌≡◌, ◌++◌, ℕ, List, length}
 use Rattle.sha2.specs.Hashers.{Holds256}
 use Rattle.llb_treetext.specs.TreeText.{lines_of, tree_text}

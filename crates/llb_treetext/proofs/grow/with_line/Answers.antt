@@ -1,4 +1,4 @@
--- The row that is read is the one of the parts, and goes to the whole tree.
+-- The row that is read is the one that the parts spell, and is put into the whole tree.
 use Rattle.std.proofs.Common.{sym, ap, subst}
 use Rattle.std.specs.Option.{option_map}
 use Rattle.llb_treetext.specs.LineFields.{pair_of, parts_seen}

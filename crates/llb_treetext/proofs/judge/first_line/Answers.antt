@@ -1,4 +1,4 @@
--- The first line is the root's.
+-- The first line is the line of the root, or it has a fault.
 use Rattle.std.proofs.Common.{refl, sym, ◌∙◌}
 use Rattle.llb_treetext.proofs.NextRowPlace.{place_names, place_kind, starts, not_first}
 use Rattle.llb_treetext.proofs.judge.first_line.Goals as goal

@@ -1,4 +1,4 @@
--- What ends first comes first.
+-- Of two texts that agree up to the end of one, the one that ends comes first.
 use Rattle.std.proofs.Common.{refl, arith}
 use Rattle.llb_treetext.proofs.SlashedNames.{longer, ended}
 use Rattle.llb_treetext.proofs.judge.is_before.Goals as goal

@@ -1,4 +1,4 @@
--- What is left decides.
+-- The bytes that are left decide the order.
 use Rattle.std.proofs.Common.{◌≡◌, ◌≤◌, length, drop}
 use Rattle.llb_treetext.specs.RowPlacement.{trail_cmp}
 use Rattle.llb_treetext.proofs.judge.is_before.Given as goal

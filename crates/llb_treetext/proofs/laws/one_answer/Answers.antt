@@ -1,4 +1,4 @@
--- A law of the definitions.
+-- This law follows from the definitions alone.
 use Rattle.llb_treetext.proofs.UniqueReading.{one_answer}
 use Rattle.llb_treetext.proofs.laws.one_answer.Goals as goal
 

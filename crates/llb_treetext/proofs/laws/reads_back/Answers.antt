@@ -1,4 +1,4 @@
--- A law of the definitions, of what a tree is by its type.
+-- This law follows from the definitions, and from what the type of a tree guarantees.
 use Rattle.llb_treetext.proofs.UniqueReading.{reads_back}
 use Rattle.llb_treetext.proofs.laws.reads_back.Goals as goal
 

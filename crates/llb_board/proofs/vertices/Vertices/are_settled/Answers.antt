@@ -34,7 +34,7 @@ loop-v-preserved c =
     each_later (λ v. is_settled (slice_get S v) || is_blocked b.build S v) (length b.build.graph.vertices) c.loop-v.v c.loop-v.invariant low
     (sym (ended_is (goal.at.loop-v-preserved c).After-is_ended) ∙ c.if-not-is_ended.false)
 
--- one that is not decides
+-- a vertex that is neither settled nor blocked decides the result
 pub returns-then-not-is_ended : goal.returns-then-not-is_ended
 returns-then-not-is_ended c =
     let b = c.self.inside in

@@ -76,13 +76,13 @@ vertices_of-requires-clause-buildable c = λ i h. subst (λ (xs : List (Vec ℕ)
     (inputs (lists xs) (get_or c.args.order.now i 0))) (sym c.deref-2.ensures.value)
     (ops_buildable c.args.self c.requires.linked c.args.order.now c.requires.whole c.requires.short i h)
 
--- the edge of the result, by the op and the number that are read
+-- the edge of the result, given the op and the number that are read for it
 result_is : (ops : List Op) (t s : ℕ) (ranks : List ℕ) (x : Edge) (n : ℕ) (op : Op) → s < length ranks → n ≡ get_or ranks s n → op_at ops t ≡ op
     → x ≡ edge_to n (input_at op 0) → x ≡ edge_to (get_or ranks s 0) (input_at (op_at ops t) 0)
 result_is ops t s ranks x n op h read same e = e ∙ ap (λ (m : ℕ). edge_to m (input_at op 0)) (get_or_read ranks s n h read 0)
     ∙ ap (λ (o : Op). edge_to (get_or ranks s 0) (input_at o 0)) (sym same)
 
--- the vertices, by the parts of the rows that were read
+-- the vertices are those of the plan, given that the links and the ranks that were read are those of the plan
 built_by : (p : Plan) (order ranks now : List ℕ) (links read : List (Vec ℕ)) (vs : List Vertex) → read ≡ links → now ≡ ranks
     → AreBuilt p.rows p.ops (lists read) now order vs (length order) → AreBuilt p.rows p.ops (lists links) ranks order vs (length order)
 built_by p order ranks now links read vs e d b = subst (λ (r : List ℕ). AreBuilt p.rows p.ops (lists links) r order vs (length order)) d
