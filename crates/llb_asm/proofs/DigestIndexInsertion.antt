@@ -76,7 +76,7 @@ module _ (texts : List (List ℕ)) (t : List ℕ) where
   stays : (d : List ℕ) (k : ℕ) → label_for texts d ≡ Some k → label_for (texts ++ t ∷ []) d ≡ Some k
   stays d k is = found_before (is_text d) texts t (λ none. let no = nowhere_before (is_text d) texts t none in cc) ∙ is
 
-  -- and another text than the one after
+  -- a text that is not the new one has the label that it had
   apart : (d : List ℕ) → is_text d t ≡ false → label_for (texts ++ t ∷ []) d ≡ label_for texts d
   apart d other = elim (cases_eq (prefix_len (λ x. not (is_text d x)) texts) (length texts)) [
     | inl none ↦ found_nowhere (is_text d) texts t none other ∙ sym (nowhere_before (is_text d) texts t none)

@@ -268,7 +268,7 @@ module _ (labels : List (List ℕ)) (depth : ℕ) where
       let short : length rest < 2 ^ 64 = omega (arith, keeps.short, small) in
       ap (λ l. written ++ l) (sym (only_extra m left.last left.set left.later rest o left.are left.bytes short end)) ∙ left.all
 
-  -- and where nothing is left
+  -- where no record is left, all fields are written
   pub left_none : (m : MessageName) (whole rest written before : List ℕ) → Keeps m whole rest written before → length whole < 2 ^ 64 → Finds rest None
       → (last : ℕ) (set : Bool) (fs : Fields) → AreFields m last set fs → whole ≡ bytes_of fs → written ≡ before ++ fields_text labels depth fs
   left_none m whole rest written before keeps small none last set fs are is =

@@ -151,7 +151,7 @@ parted_closing = go (is_utf8 closing)
     go true = refl
     go false = refl
 
--- so it adds nothing to a message
+-- so a closing line is no line of a field, and adds nothing to a message
 line_closing : (labels : List (List ℕ)) (h : Here) → line_in labels h closing ≡ Err (Breaks Syntax)
 unfolding line_in
 line_closing labels h = rw parted_closing refl

@@ -19,7 +19,7 @@ pieces text = slice_split (λ b. nat_eq b 10) text
 abbrev pub kept_of : List Line → List Line
 kept_of lines = filter (λ l. not (is_dropped l.1)) lines
 
--- those after the first n
+-- the kept lines of a text after its first n lines
 abbrev pub kept_behind : ℕ → List ℕ → List Line
 kept_behind n text = kept_of (numbered (n + 1) (drop n (pieces text)))
 

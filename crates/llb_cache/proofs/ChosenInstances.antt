@@ -26,7 +26,7 @@ no_trees (Some ts) n is = absurd (true≢false (sym is))
 pub there_trees : (rows : List Row) (key : Key) → true ≡ is_some (lookup (same_key key) rows) → lookup (same_key key) rows ≡ Some (trees_of rows key)
 there_trees rows key is = some_trees (lookup (same_key key) rows) is
 
--- and one that has none has no tree
+-- a key that has no row has no tree
 pub none_tree : (rows : List Row) (key : Key) (n : ℕ) → false ≡ is_some (lookup (same_key key) rows) → slice_get (trees_of rows key) n ≡ None
 none_tree rows key n is = no_trees (lookup (same_key key) rows) n is
 
@@ -36,7 +36,7 @@ module _ (c : CachesValue) (marks : List (List Bool)) (key : Key) (is : IsMarked
   unheld : IsExclusive key.mode → false ≡ is_some (lookup (same_key key) c.rows) → is_held c.out (place key 0) ≡ false
   unheld alone none = sym (is.exact (place key 0) alone) ∙ no_mark c.rows marks (place key 0) none
 
-  -- its first instance is chosen
+  -- the instance with number 0 is chosen for a key that has no row
   pub none_number : false ≡ is_some (lookup (same_key key) c.rows) → number_for c.out key key.mode ≡ 0
   none_number none = by_mode key.mode refl
     where
@@ -46,7 +46,7 @@ module _ (c : CachesValue) (marks : List (List Bool)) (key : Key) (is : IsMarked
       by_mode Private e =
           first_unheld c.out key 0 is.caches.apart (λ k below. absurd (omega (arith, below))) (unheld (subst IsExclusive (sym e) tt) none)
 
-  -- and no lease has it
+  -- no lease has an instance of a locked key that has no row
   pub none_held : false ≡ is_some (lookup (same_key key) c.rows) → (is_locked key.mode && is_held c.out (place key 0)) ≡ false
   none_held none = by_mode key.mode refl
     where

@@ -46,7 +46,7 @@ twice needs i x below read e differ =
     let second : get_or needs i n.0 ≡ x = sym (read ∙ get_or_default needs i x n.0 below) in
     differ at.0 i n.0 before below (ap (λ (m : Need). m.key) first ∙ sym n.2 ∙ ap (λ (m : Need). m.key) (sym second))
 
--- it is not
+-- the key of the current need is not among those before, so the needs up to this one differ too
 pub one_more : (needs : List Need) (i : ℕ) (x : Need) → i < length needs → x ≡ get_or needs i x
     → list_any (λ (n : Need). same_key x.key n.key) (take i needs) ≡ false → Differ (take i needs) → Differ (take (i + 1) needs)
 one_more needs i x below read e differ =

@@ -126,7 +126,7 @@ lease_marked c needs marks new is few differ none remarks each = record {
     mine : List Instance
     mine = map (λ t. t.0) (taken c.out needs)
 
--- ---- its end
+-- ---- the end of a lease
 
 pub back_marked : (c : CachesValue) (lease : ℕ) (marks new : List (List Bool)) → IsMarked c marks
     → Remarks (keys_of c.rows) marks (keys_of c.rows) new (is_one_of (places_of c.out lease)) false → length new ≡ length marks

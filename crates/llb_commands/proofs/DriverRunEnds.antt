@@ -103,7 +103,7 @@ finishes ls g old new over fresh goes ends plain here =
       here = subst (λ (x : Build). IsConsistent x new.state) build here;
     }
 
--- and where one by several workers has
+-- a run by several workers has finished where it has gone on to a board on which every vertex is over
 pub finishes_by : (ls : List Local) (g : Numbered) (workers : ℕ) (old new : BoardValue) → (workers ≡ 1 → ⊥) → old ≡ opened (build_of ls g) workers []
     → GoesOn old new
     → is_complete new.build new.state ≡ true → IsPlain new.build new.state → IsConsistent new.build new.state → IsFinished workers ls g new
@@ -155,7 +155,7 @@ module _ (b : Build) (graph : IsGraph b.graph) (s : State) (here : IsConsistent 
       by_status (Some (Settled (Done trees))) is = let done : is_done (ending_at s.statuses k) ≡ true =
           ap (λ o. is_done (ending_of o)) is in absurd (cc (done, undone))
 
-  -- so where the result is no tree
+  -- if the result is no tree, the run fails at a vertex
   no_result_fails : output_in (ending_at s.statuses b.graph.result.vertex) b.graph.result.index ≡ None → FailsBy s b.graph.result.vertex
   no_result_fails none =
       undone_fails b.graph.result.vertex graph.result.lower
@@ -167,7 +167,7 @@ pub result_fails : (b : Build) → IsGraph b.graph → (s : State) → IsConsist
     → output_in (ending_at s.statuses b.graph.result.vertex) b.graph.result.index ≡ None → FailsBy s b.graph.result.vertex
 result_fails b graph s here complete none = no_result_fails b graph s here complete none
 
--- and where it is one no vertex has failed
+-- if the result is a tree, no vertex has failed
 pub tree_fails_none : (b : Build) → IsGraph b.graph → (s : State) → IsConsistent b s → (t : TreeMap)
     → output_in (ending_at s.statuses b.graph.result.vertex) b.graph.result.index ≡ Some t → (v : ℕ) (f : VertexFault) → ending_at s.statuses v ≡ Some
     (Failed f) → ⊥
@@ -181,7 +181,7 @@ stands_plainly (Some Waiting) p i t stands is = absurd cc
 stands_plainly (Some (Running w)) p i t stands is = absurd stands
 stands_plainly None p i t stands is = absurd stands
 
--- so the result is that of the plain outcomes
+-- if the result is a tree and there are no caches, it is the result of the plain outcomes
 pub plain_tree : (b : Build) → IsGraph b.graph → (s : State) → IsPlain b s → (t : TreeMap)
     → output_in (ending_at s.statuses b.graph.result.vertex) b.graph.result.index ≡ Some t → HasNoCaches b → plain_result b ≡ Some t
 plain_tree b graph s plain t is none =

@@ -29,6 +29,6 @@ module _ (Are : List (List ℕ) → List Formed → Type 0) (left : Option (List
     whole = some_map (λ bytes. definition_of bytes ≡ Ok entries) (IsOut (IsTextBy Are) (stream out last)) left
         (λ bytes is. (plain_text xs, comes bytes is, kept)) read
 
-    -- and so a prefix of it
+    -- as all of the text is written, a prefix of it is
     pub unflushed : IfSome left (IsPartOut (IsTextBy Are) (stream out last))
     unflushed = part (stream out last) (plain_text xs, [], sym (append-nil (plain_text xs)), kept)

@@ -13,7 +13,7 @@ pub none_failed : (b : Build) (s : State) (err : Option (List ℕ)) → Appends 
 unfolding failed_lines
 none_failed b s err = Appends-nil err
 
--- and that of one vertex more
+-- the lines of failed vertices, with that of one vertex more
 pub one_more : (b : Build) (s : State) (v : ℕ) (look : Option Status) (first so_far now : Option (List ℕ)) → look ≡ look_at b s v
     → Appends first so_far (failed_lines b s v) → Appends so_far now (failed_line v look) → Appends first now (failed_lines b s (v + 1))
 unfolding failed_lines

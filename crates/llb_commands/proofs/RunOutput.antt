@@ -57,7 +57,7 @@ pub unread_long : (bytes : List ℕ) → 67108864 < length bytes → definition_
 unfolding definition_of
 unread_long bytes long = let yes : ltb definition_limit (length bytes) ≡ true = lt-ltb _ _ long in rw yes refl
 
--- and so they are refused
+-- bytes over the limit are refused
 refuses_long : (bytes : List ℕ) → 67108864 < length bytes → IsRefused (Refused (Definition OverLimit)) bytes
 refuses_long bytes long = (Definition OverLimit, inl (OverLimit, unread_long bytes long, refl), refl)
 
@@ -147,12 +147,12 @@ module _ (IsSo : ProgramFault → List ℕ → Type 0) (long : (bytes : List ℕ
   tells_so : (e : ReadFault) (p : ProgramFault) → r ≡ Err e → p ≡ unread_as e → ReadsAll 67108864 134217728 left left' r → TellsRefusal IsSo left p
   tells_so e p is same reads = subst (TellsRefusal IsSo left) (sym same) (by_fault e is reads)
 
--- it is refused
+-- a definition that can't be read, or that is over the limit, is refused
 pub tells_unread : (left left' : Option (List ℕ)) (r : Result (Vec ℕ Global) ReadFault) (e : ReadFault) (p : ProgramFault)
     → r ≡ Err e → p ≡ unread_as e → ReadsAll 67108864 134217728 left left' r → TellsRefusal IsRefused left p
 tells_unread = tells_so IsRefused refuses_long
 
--- it is no definition
+-- for a definition that can't be read, or that is over the limit, the refusal says that it is unread
 pub tells_no_definition : (left left' : Option (List ℕ)) (r : Result (Vec ℕ Global) ReadFault) (e : ReadFault) (p : ProgramFault)
     → r ≡ Err e → p ≡ unread_as e → ReadsAll 67108864 134217728 left left' r → TellsRefusal IsUnread left p
 tells_no_definition = tells_so IsUnread (λ bytes long. inr (long, refl))
@@ -280,7 +280,7 @@ pub tells_no_run : (workers : ℕ) (ls : List Local) (left : Option (List ℕ)) 
     → TellsRefusal (IsNotRun workers ls) left e
 tells_no_run workers ls left e tells h = some_map (IsRefused e) (IsNotRun workers ls e) left (λ bytes refused. inl refused) (tells h)
 
--- nor has what has no board
+-- a graph on which no board is opened has no run
 pub tells_unrun : (workers : ℕ) (ls : List Local) (left : Option (List ℕ)) (g : Numbered) (e : ProgramFault) → IfSome left (λ bytes. IsGraphIn bytes g)
     → (IsRefusal e → IsUnopened ls g workers e) → TellsRefusal (IsNotRun workers ls) left e
 tells_unrun workers ls left g e loads unrun h =

@@ -66,7 +66,7 @@ pub lacks : (locals : List Local) (g h : Numbered) (ls : List Local) (c d : Cach
 lacks locals g h ls c d workers name is =
     sym (named (build_of locals g) c workers (missing_local locals g.vertices)) ∙ ap (name_in (build_of locals g) c workers) is
 
--- all have one, and the number of workers is none
+-- all local sources have a tree, and the number of workers is not allowed (it is not from 1 to 64)
 pub unmanned : (locals : List Local) (g h : Numbered) (ls : List Local) (c d : CachesValue) (workers : ℕ)
     → open_of (build_of locals g) c workers ≡ Err (opening.Workers h ls d) → (missing_local locals g.vertices ≡ None) × (may_work workers ≡ false)
 unmanned locals g h ls c d workers is =

@@ -90,7 +90,7 @@ module _ {A : Type 0} (line : A → List ℕ) where
       subst (λ xs. Writes is_memory a c failed xs (Err fault)) (sym (lines_split es at e (sym there)))
       (stops_inside is_memory a b c failed (flat_map line (take at es)) (line e) (flat_map line (drop (suc at) es)) fault before part)
 
-  -- and where it is
+  -- where one more line is written
   pub prints_more : (es : List A) (at : ℕ) (e : A) (a b c : Option (List ℕ)) → Some e ≡ slice_get es at
       → Appends a b (flat_map line (take at es)) → Appends b c (line e) → Appends a c (flat_map line (take (at + 1) es))
   prints_more es at e a b c there before more =

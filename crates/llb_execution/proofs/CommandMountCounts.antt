@@ -16,7 +16,7 @@ use Rattle.llb_applet.specs.ViewSpots.{Mounts, spot_of, file_in, tree_at, entry_
 use Rattle.llb_applet.specs.ViewSpots.{with_change, with_file, without_spot, with_new_dir, with_dirs}
 use Rattle.llb_applet.specs.Commands.{path_by, spot_by, file_by, meta_there, writes, line, target_of, copied, joined, with_mode, is_kind, listing_by, run, left}
 
--- as many as in a view, where there are some
+-- the view after a command, if there is one, has as many mounts as the view before
 record Keeps (view : Mounts) (o : Option Mounts) : Type 0 where
   count : (after : Mounts) → o ≡ Some after → length after ≡ length view
 

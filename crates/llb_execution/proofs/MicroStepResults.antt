@@ -95,7 +95,7 @@ skipped k s m ends mounts caches last trees off =
     ap (λ b. cond b (ran k ends mounts caches trees (run s (filled mounts caches trees) m.command)) (no_fault (work_with (Mounted mounts caches last) trees)))
     (sym off)
 
--- one that runs leaves its work and its fault
+-- a command that runs leaves its work and its fault
 pub run_left : (k : ℕ) (s : Setting) (m : Joined) (ends : Bool) (mounts after : List Shown) (caches : List ℕ) (last status : ℕ) (trees now : List TreeMap)
     (f : Option VertexFault) → is_run m.join last ≡ true
     → work_with (Mounted after caches status) now ≡ after_run mounts caches trees (run s (filled mounts caches trees) m.command)
@@ -132,7 +132,7 @@ skip_leaves k (Run s m ends) (Mounted mounts caches last) trees skips = skipped 
 
 -- ---- what every micro-step keeps
 
--- as many mounts, of which the same show caches
+-- the two workspaces have the same number of mounts, of which the same ones show caches
 pub record IsSeenSo (before after : Workspace) : Type 0 where
   pub mounts : mounts_in after ≡ mounts_in before
   pub shown : shown_in after ≡ shown_in before

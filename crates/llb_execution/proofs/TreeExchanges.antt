@@ -51,7 +51,7 @@ taken_for mounts (m ∷ ms) (t ∷ ts) [] count counts = absurd (omega (arith, c
 taken_for mounts (m ∷ ms) (t ∷ ts) (u ∷ us) count counts =
     ap (λ xs. (mount_at mounts m).tree ∷ xs) (taken_for mounts ms ts us (omega (arith, count)) (omega (arith, counts)))
 
--- another mount's tree changes nothing of them
+-- the trees that are taken of some mounts do not change if another mount's tree is changed
 taken_elsewhere : (mounts : List Shown) (m : ℕ) (t : TreeMap) (ms : List ℕ) (ts : List TreeMap) → (Has ms m → ⊥)
     → taken (with_tree_of mounts m t) ms ts ≡ taken mounts ms ts
 taken_elsewhere mounts m t [] [] apart = refl

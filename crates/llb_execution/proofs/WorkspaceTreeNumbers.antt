@@ -168,7 +168,7 @@ seen_there mounts ms i t trees place at last =
     let within : i < length (map shown_tree mounts) = slice_get_within (map shown_tree mounts) i t at in
     last ∙ ap (last_tree i ms trees) (sym at) ∙ sym (filled_tree mounts ms trees i (omega (arith, count, within)))
 
--- and at one that is not
+-- a look at a mount that is not there
 pub seen_past : (mounts : List Shown) (ms : List ℕ) (i : ℕ) (trees : List TreeMap) → slice_get (map shown_tree mounts) i ≡ None
     → None ≡ slice_get (map shown_tree (filled mounts ms trees)) i
 seen_past mounts ms i trees none =

@@ -52,7 +52,7 @@ use Rattle.llb_fileop.proofs.CopyByPath.{stays_below, lands_on}
 abbrev Exact : {A : Type 0} → Option Refusal → Result A ActFault → Type 0
 Exact r o = option_map fault_of r ≡ fault_in o
 
--- the same for a rule about trees
+-- a refusal is exact for a rule about trees, whose fault is seen as the fault of an action
 abbrev Same : {A : Type 0} → Option Refusal → Result A TreeFault → Type 0
 Same r o = Exact r (on_tree o)
 

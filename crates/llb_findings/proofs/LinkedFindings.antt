@@ -91,7 +91,7 @@ module _ (rows : List Row) (t : ℕ) (has' : HasTerminal rows t) where
         );
       }
 
-  -- the same, as the numbering asks for it
+  -- the marked rows are the reached ones, stated for the links that the numbering uses
   pub seen_exact : (s : ℕ) (links : List (Vec ℕ)) (seen : List Bool) → start_for rows ≡ Some s → lists links ≡ links_in (plan_for rows)
       → AreReached rows seen → (k : ℕ) → IsMarked seen k ↔ Reached (lists links) s k
   seen_exact s links seen is links_are are k =

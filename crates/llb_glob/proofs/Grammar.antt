@@ -51,7 +51,7 @@ pattern_refused text none = by_answer (pattern_of text) refl (else-path (path_of
     by_answer (Ok parts) read _ = absurd (none parts (pattern_spelled parts text read))
     by_answer (Err e) _ bad = ap Err bad
 
--- and what is refused spells none
+-- a text that is refused as a pattern spells no pattern
 pub refused_spells_none : (parts : List (List Item)) (text : List ℕ) → pattern_of text ≡ Err BadPattern → SpellsPattern parts text → ⊥
 refused_spells_none parts text bad spells = apart (sym bad ∙ pattern_read parts text spells)
   where

@@ -74,7 +74,7 @@ module _ (cursor : Cursor) (letters : List ℕ) (i c : ℕ) (inside : i < length
       ∙ ap is_ok (sym (at_letter (Ok next) says))
       ∙ so_far
 
-  -- where it is refused, they can't be cut
+  -- where the next character is refused, the characters can't be cut into items
   pub is_stopped : (e : PatternFault) → cut cursor c ≡ Err e → (r : Bool) → is_ok (items_from (drop i letters) cursor none_yet) ≡ r → false ≡ r
   is_stopped e says r so_far = ap is_ok (sym (at_letter (Err e) says)) ∙ so_far
 

@@ -426,7 +426,7 @@ module _ (N : List ℕ → Type 0) (names : (n : List ℕ) → is_name n ≡ tru
   run_both s t h (e ∷ es) =
       after_both (table first s e) (table second t e) (table_both s t h e) (λ z. run first z es) (λ z. run second z es) (λ a b k. run_both a b k es)
 
-  -- ---- the same with one relation
+  -- ---- alike workers, with one relation in place of two
 
   worker_wide : (x y : WorkerStatus) → Works N R S x y → AreAlikeWorkers Q x y
   worker_wide Idle Idle h = tt

@@ -121,7 +121,7 @@ module _ (N : List ℕ → Type 0) (names : (n : List ℕ) → is_name n ≡ tru
       (alike_with_change v w h spot.mount (put_file (tree_at v spot) spot.place m a) (put_file (tree_at w spot) spot.place m b)
       (alike_put_file N R (tree_at v spot) (tree_at w spot) (alike_tree_at v w h spot) spot.place named m a b r))
 
-  -- the same, where the modes and owners are equal
+  -- two alike views stay alike after files with alike contents and with equal modes and owners are put at one spot
   alike_with_like_file : (v w : Mounts) → AlikeViews N R v w → (spot : Spot) → IsNamedSpot spot → (m n : MetaValue) → m ≡ n → (a b : List ℕ) → R a b
       → BothOptions (AlikeViews N R) (with_file v spot m a) (with_file w spot n b)
   alike_with_like_file v w h spot named m n same a b r =

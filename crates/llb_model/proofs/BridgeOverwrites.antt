@@ -21,7 +21,7 @@ abbrev pub AreKeysApart : List Instance → Type 0
 AreKeysApart [] = Unit {0}
 AreKeysApart (p ∷ ps) = ((q : Instance) → Has ps q → p.key ≢ q.key) × AreKeysApart ps
 
--- these places are there
+-- the rows have a tree for each of these instances
 abbrev pub AreWithin : List Row → List Instance → Type 0
 AreWithin rows ps = (p : Instance) → Has ps p → p.number < length (trees_of rows p.key)
 

@@ -54,7 +54,7 @@ counts_same (y ∷ vs) k rs qs same =
     ap (λ n. n ∷ counts_from (k + 1) vs qs) (same k (omega arith))
     ∙ ap (λ cs. cancels_in k rs ∷ cs) (counts_same vs (k + 1) rs qs (λ v le. same v (omega (arith, le))))
 
--- and where one was cancelled once more
+-- where one vertex was cancelled once more
 counts_more : (vs : List Vertex) (k v : ℕ) (rs qs : List Reply) → cancels_in (k + v) qs ≡ suc (cancels_in (k + v) rs)
     → ((u : ℕ) → u ≢ k + v → cancels_in u qs ≡ cancels_in u rs) → counts_from k vs qs ≡ slice_set (counts_from k vs rs) v (suc (cancels_in (k + v) rs))
 counts_more [] k v rs qs more same = refl

@@ -30,7 +30,7 @@ use Rattle.llb_model.proofs.PlainVertexStates.{ending_settled}
 use Rattle.llb_model.proofs.ExclusiveHolders.{IsSeparate, TakesFree, opening_separate, event_separate}
 use Rattle.llb_model.proofs.ClaimEnds.{cuts, uncut_here, uncut_later, cut_here, cut_later, after_reply}
 
--- all places count
+-- a condition that holds of all instances
 abbrev pub any : Instance → Type 0
 any p = Unit {0}
 

@@ -104,7 +104,7 @@ each_below g graph k v there =
 abbrev pub HasOutputs : Numbered → (ℕ → Option Ending) → Type 0
 HasOutputs g f = (j : ℕ) (x : Vertex) (trees : List TreeMap) → slice_get g.vertices j ≡ Some x → f j ≡ Some (Done trees) → length trees ≡ x.outputs
 
--- then an edge has a tree exactly where its vertex is done
+-- if each vertex that is done has all its outputs, an edge has a tree exactly where its vertex is done
 pub edge_there : (g : Numbered) (f : ℕ → Option Ending) → HasOutputs g f → (k : ℕ) → k ≤ length g.vertices → (e : Edge) → LeadsBelow g.vertices k e
     → is_some (output_in (f e.vertex) e.index) ≡ is_done (f e.vertex)
 edge_there g f counts k fits e leads =

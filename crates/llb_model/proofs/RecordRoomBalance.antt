@@ -36,7 +36,7 @@ cancels_once_more v rs r e =
 
 -- ---- what is owed
 
--- nothing is owed at first
+-- where all vertices wait and no event has happened, nothing is owed
 owed_open : (vs : List Vertex) (k : ℕ) → owed_from k vs (replicate (length vs) Waiting) [] ≡ 0
 owed_open [] k = refl
 owed_open (y ∷ vs) k = omega (arith, owed_open vs (k + 1))
@@ -44,7 +44,7 @@ owed_open (y ∷ vs) k = omega (arith, owed_open vs (k + 1))
 pub opening_owed : (b : Build) (o : Opening) → owed b (opening b o).statuses [] ≡ 0
 opening_owed b o = owed_open b.graph.vertices 0
 
--- another status of one vertex
+-- what is owed after one vertex gets another status
 owed_set : (vs : List Vertex) (ss : List Status) (k v : ℕ) (x : Vertex) (s t : Status) (rs : List Reply) → slice_get vs v ≡ Some x → slice_get ss v ≡ Some s
     → owed_from k vs (slice_set ss v t) rs + owed_by x s (cancels_in (k + v) rs) ≡ owed_from k vs ss rs + owed_by x t (cancels_in (k + v) rs)
 owed_set [] ss k v x s t rs there at = absurd cc
@@ -79,7 +79,7 @@ owed_counts (y ∷ vs) (s ∷ ss) k rs qs same =
 running_owes : (y : Vertex) (s : Status) (w n : ℕ) → s ≡ Running w → owed_by y s n ≡ 0
 running_owes y s w n e = ap (λ t. owed_by y t n) e
 
--- and where one vertex has one more, but runs
+-- for a vertex that runs, what is owed does not depend on how often it was cancelled
 owed_running : (vs : List Vertex) (ss : List Status) (k v w : ℕ) (rs qs : List Reply) → slice_get ss v ≡ Some (Running w)
     → ((u : ℕ) → u ≢ k + v → cancels_in u qs ≡ cancels_in u rs) → owed_from k vs ss qs ≡ owed_from k vs ss rs
 owed_running [] ss k v w rs qs at same = refl
@@ -168,7 +168,7 @@ event_owes b s (Cancel w) a rs here given =
         let replies = owed_running vs s.statuses 0 v w rs qs status others in
         omega (arith, most, events, set, owes, replies)
 
--- ---- there is a place
+-- ---- there is room for a granted event
 
 -- what is owed is still to come
 pub owed_few : (vs : List Vertex) (ss : List Status) (k : ℕ) (rs : List Reply) → owed_from k vs ss rs ≤ all_to_come vs ss
@@ -222,12 +222,12 @@ IsRoomy b s rs room = room + owed b s.statuses rs ≡ most_events b rs
 pub opening_roomy : (b : Build) (o : Opening) → IsRoomy b (opening b o) [] (most_events b [])
 opening_roomy b o = omega (arith, opening_owed b o)
 
--- then there is room for a granted event, where it takes its own
+-- there is room for a granted event, together with the room that the event itself takes
 pub room_for_event : (b : Build) (o : Opening) (s : State) (es : List Event) (rs : List Reply) (room : ℕ) (e : Event) (a : Answer)
     → run b (opening b o) es ≡ Some (s, rs) → IsRoomy b s rs room → table b s e ≡ Some a → length es + 1 ≤ room + room_taken b rs e
 room_for_event b o s es rs room e a leads roomy given = omega (arith, run_has_few b o s es rs leads, has_place b s e a rs given, roomy)
 
--- and it is so after the event
+-- the room is still enough after a granted event
 pub event_roomy : (b : Build) (s : State) (rs : List Reply) (room : ℕ) (e : Event) (a : Answer) → IsConsistent b s → IsRoomy b s rs room
     → table b s e ≡ Some a → IsRoomy b a.0 (rs ++ a.1 ∷ []) (room + room_taken b rs e)
 event_roomy b s rs room e a here roomy given = omega (arith, event_owes b s e a rs here given, roomy)

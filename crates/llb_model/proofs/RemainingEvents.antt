@@ -92,7 +92,7 @@ most_counts (y ∷ vs) k rs qs same =
     ap (λ n. events_of y * (1 + n) + most_from (k + 1) vs qs) (same k (omega arith))
     ∙ ap (λ n. events_of y * (1 + cancels_in k rs) + n) (most_counts vs (k + 1) rs qs (λ v le. same v (omega (arith, le))))
 
--- and where one vertex has one more
+-- where one vertex was cancelled once more, its events may come once more
 pub most_more : (vs : List Vertex) (k v : ℕ) (rs qs : List Reply) → cancels_in (k + v) qs ≡ suc (cancels_in (k + v) rs)
     → ((u : ℕ) → u ≢ k + v → cancels_in u qs ≡ cancels_in u rs) → most_from k vs qs ≡ most_from k vs rs + events_at (slice_get vs v)
 most_more [] k v rs qs more same = refl

@@ -198,7 +198,7 @@ module _ (b : Build) (graph : IsGraph b.graph) (s : State) (here : IsConsistent 
       (λ k low high. progress (length b.graph.vertices) (omega arith) (λ j w lt runs. let x = here.running j w runs in idle w x.0 x.1)
       (λ j lt. ready j (omega arith) (omega arith)) k (omega arith))
 
-  -- and where every vertex is over it finds none
+  -- where every vertex is over, no next event is chosen
   pub complete_is_none : is_complete b s ≡ true → chosen b s ≡ None
   complete_is_none e =
       let over : (k : ℕ) → k < length b.graph.vertices → is_over b s k ≡ true =
@@ -210,7 +210,7 @@ module _ (b : Build) (graph : IsGraph b.graph) (s : State) (here : IsConsistent 
 
 -- ---- complete runs
 
--- then nothing runs
+-- where every vertex is over, no worker runs
 pub complete_rests : (b : Build) → IsGraph b.graph → (s : State) → IsConsistent b s → is_complete b s ≡ true → IsAtRest s
 complete_rests b graph s here complete v w runs =
     over_not_running b graph s here v w (each_true (is_over b s) 0 (length b.graph.vertices) complete v (omega arith)

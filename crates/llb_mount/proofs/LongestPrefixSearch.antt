@@ -44,7 +44,7 @@ goes_up ds rows count at path root climbs near out = (climbs at 0 low near.there
       | inr end ↦ absurd (true≢false (sym (start path) ∙ ap (λ n. is_within (dest_of ds rows n) path) (let z : 0 ≡ at = omega (arith, end) in z) ∙ out))
     ]
 
--- and that one is near
+-- if the path is not below the dest of mount `at`, the mount above that one is near the path
 pub still_near : (ds : List (List (List ℕ))) (rows : List Row) (count at : ℕ) (path : List (List ℕ)) → Climbs ds rows count → above_of rows at < at
     → IsNear ds rows count path at → is_within (dest_of ds rows at) path ≡ false → IsNear ds rows count path (above_of rows at)
 still_near ds rows count at path climbs up near out = record {

@@ -130,7 +130,7 @@ module _ (b : Build) (graph : IsGraph b.graph) (s : State) (here : IsConsistent 
   none_runs : is_complete b s ≡ true → NoneRuns s
   none_runs complete w x there = complete_rests b graph s here complete x.vertex w (here.working w x there)
 
-  -- so nothing is granted
+  -- where all vertices are over, no event is granted
   pub nothing_granted : is_complete b s ≡ true → (e : Event) → table b s e ≡ None
   nothing_granted complete e = by_answer (table b s e) refl
     where

@@ -120,7 +120,7 @@ pub begun : (s : Stepping) (es : List Event) → GoneTo s es s 0
 unfolding run_on
 begun s es = record { leads = refl; past = refl; breaks = refl; none = λ k lt. absurd (omega arith); depth = omega arith }
 
--- it meets none
+-- one more event of the list is done, and meets no breakpoint
 pub one_more : (s t u : Stepping) (es : List Event) (i : ℕ) (e : Event) → GoneTo s es t i → slice_get es i ≡ Some e → MeetsOn t e u false
     → GoneTo s es u (i + 1)
 one_more s t u es i e kept at met =
@@ -137,7 +137,7 @@ one_more s t u es i e kept at met =
 abbrev stop_at : ℕ → Bool → Stop
 stop_at n hit = record { events = n; at_break = hit }
 
--- it meets one, and is the first
+-- one more event of the list is done, and is the first that meets a breakpoint
 pub stops : (s t u : Stepping) (es : List Event) (i n : ℕ) (e : Event) → n + length s.past ≡ length u.past → GoneTo s es t i → slice_get es i ≡ Some e
     → MeetsOn t e u true → PastIsTheRecords u
     → IsStop s es u (stop_at n true)
@@ -154,7 +154,7 @@ stops s t u es i n e count kept at met records =
       ends = (i, (omega (arith, m), g.4));
     }
 
--- all were done
+-- all events of the list were done, and none met a breakpoint
 pub ends_all : (s t : Stepping) (es : List Event) (i n : ℕ) → n + length s.past ≡ length t.past → i ≡ length es → GoneTo s es t i
     → PastIsTheRecords t → IsStop s es t (stop_at n false)
 ends_all s t es i n count all kept records =
@@ -251,7 +251,7 @@ one_chosen s t u e c is met =
           (at_end c.events e) met);
     }
 
--- and one that meets one
+-- one more chosen event is done, and meets a breakpoint
 pub stops_chosen : (s t u : Stepping) (n : ℕ) (e : Event) → n + length s.past ≡ length u.past → Chosen s t → chosen t.board.build t.board.state ≡ Some e
     → MeetsOn t e u true → PastIsTheRecords u → IsGo s u (stop_at n true)
 stops_chosen s t u n e count c is met records = record {

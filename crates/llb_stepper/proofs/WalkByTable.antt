@@ -97,11 +97,11 @@ module _ (b n : BoardValue) (e : Event) (ws : List Walked) (w : Walked) (back : 
   turned : reverse (ws ++ w ∷ []) ≡ w ∷ reverse ws
   turned = reverse-append ws (w ∷ [])
 
-  -- it can be taken back too
+  -- one event more can be taken back too
   pub walked_more : CanUndo w.undo n → AreWalked b (reverse ws) → AreWalked n (reverse (ws ++ w ∷ []))
   walked_more can before = subst (AreWalked n) (sym turned) (can, follows, subst (λ x. AreWalked x (reverse ws)) (sym back) before)
 
-  -- and the stepper is after it
+  -- the stepper is after the event
   pub stepping_more : (breaks : List Break) → stepping n (ws ++ w ∷ []) breaks ≡ onward (stepping b ws breaks) n
   stepping_more breaks =
       ap (λ us. record { board = n; past = past_of n us; breaks = breaks }) turned

@@ -22,7 +22,7 @@ use Rattle.llb_tree.specs.declared.node.Child.{Child}
 use Rattle.llb_tree.specs.declared.node.Piece.{Piece}
 use Rattle.llb_tree.proofs.EntryOrder.{is_less, and_first, and_second}
 
--- nothing is no other choice
+-- a choice between an entry and nothing is the entry, if there is one
 pub or_None : (a : Option Entry) → option_or a None ≡ a
 or_None None = refl
 or_None (Some x) = refl
@@ -81,7 +81,7 @@ pub dir_alone : (m : MetaValue) (look : Look) → ((n : List ℕ) (q : List (Lis
 dir_alone m look none [] = finite.get-insert path_cmp-IsTotalOrder finite.empty [] (Dir m) []
 dir_alone m look none (n ∷ q) = finite.get-insert path_cmp-IsTotalOrder finite.empty [] (Dir m) (n ∷ q) ∙ finite.get-empty path_cmp (n ∷ q) ∙ none n q
 
--- the same below another mode and owner
+-- a directory that keeps its children, but gets another mode and owner, has the same entries below it
 pub dir_kept : (k : Kind) (old : Kind) (v : TreeMap) (m : MetaValue) → own_entry k ≡ Dir m → kids_of k ≡ kids_of old → map_of old ≡ v
     → (q : List (List ℕ)) → finite.get (map_of k) q ≡ dir_look m (finite.get v) q
 dir_kept k old v m own kids view [] = get-root k ∙ ap Some own

@@ -101,7 +101,7 @@ module _ (w : SettingsValue) (old : List Child) where
     pub one_stays : IsOver w old kid kid.node → HasLaid w old (i + 1) us es
     one_stays over = subst (λ j. HasLaid w old j us es) (sym (add-one i)) (stays i us es kid lt so_far (subst (λ (k : Child). IsOver w old k k.node) is over))
 
-    -- or is written anew
+    -- the next upper child is written anew
     pub one_written : (t : TreeMap) (new : Pairs) → IsOver w old kid t → new ≡ written i t es → HasLaid w old (i + 1) us new
     one_written t new over wrote = subst (λ xs. HasLaid w old (i + 1) us xs) (sym wrote) (subst (λ j. HasLaid w old j us (written i t es)) (sym (add-one i))
         (writes i us es kid t lt so_far (subst (λ (k : Child). IsOver w old k t) is over)))
@@ -129,7 +129,7 @@ module _ (w : SettingsValue) (takes : TakesWhole w) where
   file_stays old kid lone q = sym (over_file w (look_in (child (name_of kid) old)) (finite.get kid.node) q lone
       ∙ worn_all w (finite.get kid.node q) takes.own)
 
-  -- and so does all that is laid over nothing
+  -- a child that is laid over nothing stays as it is
   pub new_stays : (old : List Child) (kid : Child) → child (name_of kid) old ≡ None → IsOver w old kid kid.node
   new_stays old kid none q = sym (ap (λ o. over_at w (look_in o) (finite.get kid.node) q) none
       ∙ over_none w (finite.get kid.node q) (below_file (finite.get kid.node) q) ∙ worn_all w (finite.get kid.node q) takes.own)
@@ -138,7 +138,7 @@ module _ (w : SettingsValue) (takes : TakesWhole w) where
   pub dir_stays : (m l : MetaValue) → over w (Some (Dir m)) (Dir l) ≡ Dir l
   dir_stays m l = λ i. Dir (cond (takes.upper i) m (takes.own l i))
 
--- ---- all of them
+-- ---- all upper children
 
 none_made : (w : SettingsValue) (old upper made : List Child) (m : List ℕ) → AreLaid w old upper made → is_some (child m made) ≡ is_some (child m upper)
 none_made w old [] [] m laid = refl

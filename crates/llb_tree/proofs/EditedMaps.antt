@@ -102,7 +102,7 @@ nothing_below t p n q tree fits = by_entry (finite.get t (p ++ (n ∷ q))) refl
         (ap (λ x. file_fits (finite.get t x)) (append-nil p) ∙ fits)
         (sym (walk-cons (λ r. finite.get t (p ++ r)) n q) ∙ walk_below (finite.get t) p (n ∷ q) (tree.closed (p ++ (n ∷ q)) (ap is_some is))))
 
--- nor below a path where nothing is
+-- nothing is below a path at which nothing is
 pub none_below : (t : TreeMap) (p q : List (List ℕ)) → IsTree t → finite.get t p ≡ None → finite.get t (p ++ q) ≡ None
 none_below t p [] tree none = ap (finite.get t) (append-nil p) ∙ none
 none_below t p (n ∷ q) tree none = nothing_below t p n q tree (ap file_fits none)

@@ -64,7 +64,7 @@ module _ (t : TreeMap) (p : List (List ℕ)) (other : TreeMap) where
       ∙ ap (λ b. cond (not b) (finite.get t (p ++ q)) None) (within-append p q))
       ∙ find_moved p q (finite.entries other) ∙ sym (finite.get-entries other q)
 
-  -- and everywhere else it has what it had
+  -- everywhere else, the tree has what it had
   pub get_outside : (q : List (List ℕ)) → is_within p q ≡ false → finite.get (with_tree t p other) q ≡ finite.get t q
   get_outside q out =
       finite.get-from_entries path_cmp-IsTotalOrder (map (moved 0 p) (finite.entries other) ++ finite.entries (without t p)) q

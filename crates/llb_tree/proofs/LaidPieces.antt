@@ -104,7 +104,7 @@ module _ (w : SettingsValue) (old : List Child) where
     piece_stays laid = subst (λ j. HaveLaid j us ps) (sym (add-one i))
         (rows_stay i us ps u lt so_far (subst (λ (x : Piece). AreLaid w old (rows_in x) (rows_in x)) is laid))
 
-    -- or has other rows
+    -- the next piece gets other rows
     pub piece_written : (rows : List Child) (new : List Pairs) → AreLaid w old (rows_in u) rows → new ≡ set ps i (map pair_of rows)
         → HaveLaid (i + 1) us new
     piece_written rows new laid wrote = subst (HaveLaid (i + 1) us) (sym wrote) (subst (λ j. HaveLaid j us (set ps i (map pair_of rows))) (sym (add-one i))

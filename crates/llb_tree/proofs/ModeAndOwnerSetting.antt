@@ -40,12 +40,12 @@ get-dress w t q =
     finite.get-from_entries path_cmp-IsTotalOrder (map (λ (e : Pair). (e.0, worn w e.1)) (finite.entries t)) q
     ∙ find_mapped path_cmp (worn w) q (finite.entries t) ∙ ap (option_map (worn w)) (sym (finite.get-entries t q))
 
--- a way without modes and owners changes nothing
+-- settings without modes and owners change nothing of an entry
 worn_same : (w : SettingsValue) (e : Entry) → ((m : MetaValue) → laid_meta w m ≡ m) → worn w e ≡ e
 worn_same w (Dir m) same = ap Dir (same m)
 worn_same w (File m b) same = ap (λ x. File x b) (same m)
 
--- and none of what is there, if anything is
+-- settings without modes and owners change nothing of an entry, if there is one
 pub worn_all : (w : SettingsValue) (o : Option Entry) → ((m : MetaValue) → laid_meta w m ≡ m) → option_map (worn w) o ≡ o
 worn_all w None same = refl
 worn_all w (Some e) same = ap (λ x. Some x) (worn_same w e same)

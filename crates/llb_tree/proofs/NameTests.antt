@@ -43,7 +43,7 @@ passes_tests name is =
 pub no_slash : (b : ℕ) → is_name_byte b ≡ true → (b == 47) ≡ false
 no_slash b is = untrue _ (and_parts (nat_le 32 b && not (b == 127)) _ is).1
 
--- nor is one below a space
+-- no byte of a name is below a space
 pub from_space : (b : ℕ) → is_name_byte b ≡ true → 32 ≤ b
 from_space b is = leb-true 32 b (and_parts (nat_le 32 b) _ (and_parts (nat_le 32 b && not (b == 127)) _ is).0).0
 

@@ -21,7 +21,7 @@ use Rattle.llb_tree.specs.declared.node.Child.{Child}
 use Rattle.llb_tree.proofs.EntryOrder.{is_less, less_is, below_first, and_first, and_second, and_both}
 use Rattle.llb_tree.proofs.ChildLookup.{or_None}
 
--- the same is found below two lists of children
+-- below two lists of children the same entries are found
 abbrev pub Alike : List Child → List Child → Type 0
 Alike ks ls = (n : List ℕ) (q : List (List ℕ)) → look_kids ks n q ≡ look_kids ls n q
 
@@ -67,7 +67,7 @@ look_first k ks q h =
 
 module _ (k l : Child) (ks ls : List Child) (sorted : AreSorted (k ∷ ks)) (sorted2 : AreSorted (l ∷ ls)) where
   module _ (names : name_of k ≡ name_of l) where
-    -- the same first child decides nothing
+    -- if the first children are equal, the children after them decide
     alike_rest : k.node ≡ l.node → Alike (k ∷ ks) (l ∷ ls) ↔ Alike ks ls
     alike_rest nodes = (
       λ alike n q. by_name n q (name_cmp n (name_of k)) refl (alike n q),
@@ -94,7 +94,7 @@ module _ (k l : Child) (ks ls : List Child) (sorted : AreSorted (k ∷ ks)) (sor
       let all = and_both _ _ (less_is _ is) (below_first nat_list_cmp_total (name_of k) (name_of l) (map pair_of ls) is (and_first _ _ sorted2)) in
       true≢false (sym there ∙ ap is_some (sym (look_first k ks [] sorted) ∙ alike (name_of k) [] ∙ none_below (name_of k) [] (l ∷ ls) all))
 
--- so the first names are the same
+-- if two lists of children are alike, their first children have the same name
 alike_names : (k l : Child) (ks ls : List Child) → AreSorted (k ∷ ks) → AreSorted (l ∷ ls) →
     is_some (finite.get k.node []) ≡ true → is_some (finite.get l.node []) ≡ true → Alike (k ∷ ks) (l ∷ ls) → name_of k ≡ name_of l
 alike_names k l ks ls sorted sorted2 there there2 alike = go (name_cmp (name_of k) (name_of l)) refl
@@ -106,7 +106,7 @@ alike_names k l ks ls sorted sorted2 there there2 alike = go (name_cmp (name_of 
         let turned = nat_list_cmp_total.antisymm (name_of l) (name_of k) ∙ ap ordering_reverse is in
         absurd (no_earlier l k ls ks sorted2 sorted there2 turned (λ n q. sym (alike n q)))
 
--- and no child is alone
+-- a list with a child is not alike to an empty list
 alike_none : (k : Child) (ks : List Child) → is_some (finite.get k.node []) ≡ true → Alike (k ∷ ks) [] → ⊥
 alike_none k ks there alike =
     true≢false (sym (or_some (finite.get k.node []) (look_kids ks (name_of k) []) there) ∙ ap is_some (sym (first_here k ks []) ∙ alike (name_of k) []))
@@ -172,7 +172,7 @@ module _ (ks ls xs ys : List Child) (so : SoFar ks ls xs ys) where
   one_more k rest first none there alike =
       alike_none k rest there (subst (λ x. Alike x []) first (subst (Alike xs) none (so.rest.0 alike)))
 
-  -- or on the second side alone
+  -- a child is left on the second side alone, so they are not alike
   pub one_less : (l : Child) (rest : List Child) → ys ≡ l ∷ rest → xs ≡ [] → is_some (finite.get l.node []) ≡ true → Alike ks ls → ⊥
   one_less l rest first none there alike =
       alike_none l rest there (subst (λ x. Alike x []) first (subst (Alike ys) none (λ n q. sym (so.rest.0 alike n q))))
@@ -194,7 +194,7 @@ module _ (ks ls xs ys : List Child) (so : SoFar ks ls xs ys) where
     pub same_name : is_some (finite.get k.node []) ≡ true → is_some (finite.get l.node []) ≡ true → Alike ks ls → name_of k ≡ name_of l
     same_name there there2 alike = alike_names k l ks2 ls2 sorted_here sorted_here2 there there2 (alike_here.0 alike)
 
-    -- and the same below it
+    -- if two lists of children are alike, the first children, which have one name, have the same node
     pub same_node : name_of k ≡ name_of l → Alike ks ls → k.node ≡ l.node
     same_node names alike = alike_nodes k l ks2 ls2 sorted_here sorted_here2 names (alike_here.0 alike)
 

@@ -25,7 +25,7 @@ below_none : (g : Look) (ps : List (List (List ℕ))) → ((r : List (List ℕ))
 below_none g [] none = refl
 below_none g (p ∷ ps) none = (λ i. is_file (none p i) || below_none g ps none i)
 
--- nothing over a tree
+-- a tree over which nothing is laid stays as it is
 pub none_over : (w : SettingsValue) (f g : Look) (q : List (List ℕ)) → ((r : List (List ℕ)) → g r ≡ None) → over_at w f g q ≡ f q
 none_over w f g q none = λ i. laid_over w (f q) (none q i) (below_none g (parents q) none i)
 

@@ -60,7 +60,7 @@ without_absent n (e ∷ es) h =
       | false ↦ λ is. ap (λ xs. e ∷ xs) (without_absent n es is)
     ] h
 
--- nothing where there was nothing
+-- where a child that is not there is replaced by nothing, nothing changes
 pub changes_nothing : (n : List ℕ) (ks : List Child) (i : ℕ) → AreSorted ks → Err i ≡ place n ks → Changes n [] None (map pair_of ks) (map pair_of ks)
 changes_nothing n ks i h at = (None, sym (without_absent n (map pair_of ks) ((is_gap n ks i (sym at)).none h)), λ q. refl)
 
@@ -145,7 +145,7 @@ flat_by (k ∷ ks) = ap (λ es. map (λ (e : Pair). (name_of k ∷ e.0, e.1)) (f
 pub same_dir : (k m : Kind) → own_entry m ≡ own_entry k → map pair_of (kids_of m) ≡ map pair_of (kids_of k) → map_of m ≡ map_of k
 same_dir k m own is = λ i. finite.from_entries (([], own i) ∷ (flat_by (kids_of m) ∙ ap flat_pairs is ∙ sym (flat_by (kids_of k))) i)
 
--- and so have those with pieces of the same pairs
+-- two directories with the same mode and owner, and with pieces of the same pairs, have the same map
 pub same_pieces : (k m : Kind) → own_entry m ≡ own_entry k → pairs_of (pieces_of m) ≡ pairs_of (pieces_of k) → map_of m ≡ map_of k
 same_pieces k m own is = same_dir k m own (pairs_kids (pieces_of m) ∙ is ∙ sym (pairs_kids (pieces_of k)))
 

@@ -133,7 +133,7 @@ module _ (w : SettingsValue) (a b t : TreeMap) (is : (q : List (List ℕ)) → f
             (λ none clear low. lower.allowed p e low);
       }
 
-  -- and it is no higher than the higher of the two
+  -- the overlaid tree is no higher than the higher of the two trees
   pub height-overlaid : (n : ℕ) → height a ≤ n → height b ≤ n → height t ≤ n
   height-overlaid n low up = height_le t n (λ q there.
       let some = some_is (finite.get t q) there in

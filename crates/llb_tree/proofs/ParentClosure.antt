@@ -50,11 +50,11 @@ module _ (t : TreeMap) (tree : IsTree t) (p : List (List ℕ)) (walks : walk (fi
         allowed = λ q d. get-insert_cases (λ o. o ≡ Some d → IsAllowedAt q d) t p e q (allowed_there p e can q d) (tree.allowed q d);
       }
 
-  -- so does a directory, whatever is there
+  -- a tree stays a tree after a directory is put at the path, whatever is there
   pub IsTree-insert_dir : (m : MetaValue) → IsPath p → IsMeta m → IsTree (finite.insert t p (Dir m))
   IsTree-insert_dir m path is = IsTree-insert (Dir m) (record { path = path; meta = is; bytes = tt }) (λ q dir same. (m, refl))
 
-  -- and a file where no directory is
+  -- a tree stays a tree after a file is put at the path, if no directory is there
   pub IsTree-insert_file : (m : MetaValue) (b : List ℕ) → IsPath p → IsMeta m → AreBytes b
       → file_fits (finite.get t p) ≡ Ok tt → IsTree (finite.insert t p (File m b))
   IsTree-insert_file m b path is bytes fits = IsTree-insert (File m b) (record { path = path; meta = is; bytes = bytes })

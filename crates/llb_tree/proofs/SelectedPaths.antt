@@ -49,7 +49,7 @@ flat_more (j ∷ ks) k =
     ∙ ap (λ qs. qs ++ keys_of (below k)) (sym (map-append (λ (e : Pair). e.0) (below j) (flat ks)))
 
 module _ {X : Type 0} (passes : X → List ℕ → Bool) where
-  -- those of a node that pass
+  -- the paths that pass all tests
   abbrev pub hits : List X → Paths → Paths
   hits ts qs = filter (passes_all passes ts) qs
 
@@ -87,7 +87,7 @@ module _ {X : Type 0} (passes : X → List ℕ → Bool) where
   none_in t ts kid p found fails = sym (ap (λ qs. found ++ under p qs) (hits_below t ts (name_of kid) (finite.entries kid.node)
       ∙ ap (λ b. cond b (map (λ (q : List (List ℕ)). name_of kid ∷ q) (hits ts (finite.keys kid.node))) []) fails) ∙ append-nil found)
 
-  -- those of a child are found below its name
+  -- the paths that pass in a child are found below its name
   pub all_in : (t : X) (ts : List X) (kid : Child) (p : List (List ℕ)) (n : List ℕ) (old new : Paths) → passes t (name_of kid) ≡ true → n ≡ name_of kid
       → new ≡ old ++ under (p ++ n ∷ []) (hits ts (finite.keys kid.node)) → new ≡ old ++ under p (hits (t ∷ ts) (keys_of (below kid)))
   all_in t ts kid p n old new hit named is = is ∙ ap (λ qs. old ++ qs) (ap (λ m. under (p ++ m ∷ []) (hits ts (finite.keys kid.node))) named
@@ -95,7 +95,7 @@ module _ {X : Type 0} (passes : X → List ℕ → Bool) where
       ∙ ap (under p) (sym (hits_below t ts (name_of kid) (finite.entries kid.node)
       ∙ ap (λ b. cond b (map (λ (q : List (List ℕ)). name_of kid ∷ q) (hits ts (finite.keys kid.node))) []) hit)))
 
-  -- one child more
+  -- the paths that pass in one more child are found
   pub found_next : (ts : List X) (ks : List Child) (i : ℕ) (kid : Child) (p : List (List ℕ)) (first old new : Paths) → i < length ks → kid ≡ get_or ks i kid
       → old ≡ first ++ under p (hits ts (keys_of (flat (take i ks)))) → new ≡ old ++ under p (hits ts (keys_of (below kid)))
       → new ≡ first ++ under p (hits ts (keys_of (flat (take (i + 1) ks))))
@@ -116,7 +116,7 @@ module _ {X : Type 0} (passes : X → List ℕ → Bool) where
     found_here p old new is = is ∙ ap (λ qs. old ++ qs) (sym (ap (λ qs. under p (hits [] qs)) keys_are
         ∙ ap (λ qs. under p ([] ∷ qs)) (none_flat (kids_of k)) ∙ ap (λ q. q ∷ []) (append-nil p)))
 
-    -- those of all children are those of the node
+    -- the paths that pass in all children of a node are those that pass in the node
     pub found_all : (t : X) (ts : List X) (ks : List Child) (i : ℕ) (p : List (List ℕ)) (old new : Paths) → kids_of k ≡ ks → length ks ≤ i
         → new ≡ old ++ under p (hits (t ∷ ts) (keys_of (flat (take i ks)))) → new ≡ old ++ under p (hits (t ∷ ts) (finite.keys v))
     found_all t ts ks i p old new kids past is = is ∙ ap (λ qs. old ++ under p qs) (ap (λ xs. hits (t ∷ ts) (keys_of (flat xs))) (take_all i ks past ∙ sym kids)

@@ -23,7 +23,7 @@ use Rattle.llb_work.specs.Tasks.{IsClaimed}
 abbrev pub MarkedSoFar : List Vertex → ℕ → List Bool → Type 0
 MarkedSoFar vs k marks = by_number next_plain marks (drop k vs) ≡ by_number next_plain [] vs
 
--- the same holds after one more mark by the rule
+-- the marks are still those of the rule after the mark of one more vertex, which is made by the rule
 pub marked_more : (vs : List Vertex) (k : ℕ) (marks : List Bool) (v : Vertex) → MarkedSoFar vs k marks → k < length vs → v ≡ get_or vs k v
     → MarkedSoFar vs (k + 1) (marks ++ next_plain marks v ∷ [])
 marked_more vs k marks v here low is =

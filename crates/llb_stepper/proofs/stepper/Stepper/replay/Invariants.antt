@@ -1,4 +1,4 @@
--- So many of the events were done, and met no breakpoint.
+-- As many of the events were done as the loop has counted, and none met a breakpoint.
 use Rattle.std.proofs.Common.{◌≡◌, map, length}
 use Rattle.llb_stepper.proofs.EventSequences.{GoneTo}
 use Rattle.llb_stepper.proofs.stepper.Stepper.replay.Given as goal
