@@ -23,7 +23,7 @@ and_joins w is = ap join_of ((bytes_decides w (codes "&&")).0 is)
 is_the_and : (w : List ℕ) (next : Join) → (not (is_separator w) || is_and w) ≡ true → join_of w ≡ Some next → is_and w ≡ true
 is_the_and w next only is = sym (ap (λ (o : Option Join). not (is_some o) || is_and w) is) ∙ only
 
--- and a word that is no separator is not `&&`
+-- a word that is no separator is not `&&`
 is_no_and : (w : List ℕ) → join_of w ≡ None → is_and w ≡ false
 is_no_and w is = by_test (is_and w) refl
   where

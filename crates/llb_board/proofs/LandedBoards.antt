@@ -354,7 +354,7 @@ not_refused b n w count e through is = by_grant (settle_grant n.build n.state w)
     by_grant (Ok a) ok is = cc
     by_grant (Err cause) ok is = cc
 
--- so it is granted
+-- since it is not refused, the settle after the steps is granted
 pub is_settled : (b n m : BoardValue) (w count : ℕ) (r : Result Settled SettleFault) → IsThrough b w count n
     → GivesSettle (λ s. (m, HasSettled s)) r (settle_of n w) → is_ok r ≡ true
 is_settled b n m w count (Ok s) through gives = refl

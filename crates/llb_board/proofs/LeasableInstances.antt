@@ -78,7 +78,7 @@ never false none = refl
 idle_apart : {x : Execution} → ◌≡◌ {A = Option WorkerStatus} (Some (Runs x)) (Some Idle) → ⊥
 idle_apart e = cc
 
--- its instances can be leased
+-- the instances of a worker that runs again can be leased
 pub can_lend : (rows : List Row) (out : Leases) (workers : List WorkerStatus) (ls : List (Option ℕ)) (w : ℕ) (x : Execution) (room : ℕ)
     → AreHeldThere (slice_set workers w (Runs x)) rows → AreHeldOnce (slice_set workers w (Runs x)) → slice_get workers w ≡ Some Idle
     → AreLeased out workers ls → AreKeysApart x.places → length workers ≤ 64 → length workers < room

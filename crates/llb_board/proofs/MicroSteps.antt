@@ -37,7 +37,7 @@ module _ (b : Build) (rows : List Row) (x : Execution) (m : MicroStep) (clean : 
   stepped_to : worked_in b rows x ≡ written_by rows x.places (Ok (worked_to x m (step_on x.done (Some m) (work_with x.own held))))
   stepped_to = ap (written_by rows x.places) (goes_to (program_in b x).steps x held m clean at)
 
-  -- so only memory can refuse it
+  -- so only want of memory can refuse the micro-step
   pub step_last : {A : Type 0} (r : Result A StepFault) → MemoryLast step_memory r (worked_in b rows x)
   step_last r = last_of r (worked_in b rows x) (ap is_ok stepped_to)
 

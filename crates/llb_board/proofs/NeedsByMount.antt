@@ -106,7 +106,7 @@ got_has [] k d below = absurd (omega (arith, below))
 got_has (n ∷ ns) zero d below = inl refl
 got_has (n ∷ ns) (suc k) d below = inr (got_has ns k d (omega (arith, below)))
 
--- and those that show caches are mounts of the vertex
+-- the mounts that show caches are mounts of the vertex
 pub needs_within : (v : Vertex) → All (λ n. n < length (kind_mounts v.op.kind)) (map mount_of (needs_of v))
 needs_within v =
     λ k d below.

@@ -74,7 +74,7 @@ pub none_shown : (i : ℕ) (m : Mount) (o : Option CacheKey) (rest : List Need) 
 none_shown i m None rest none = refl
 none_shown i m (Some k) rest none = absurd cc
 
--- and one that shows one needs it
+-- a mount that shows a cache needs this cache
 pub one_shown : (i : ℕ) (m : Mount) (o : Option CacheKey) (rest : List Need) (k : Key) → Some k ≡ option_map key_as o
     → with_need i m o rest ≡ record { mount = i; key = k; input = m.input } ∷ rest
 one_shown i m None rest k is = absurd cc
@@ -83,7 +83,7 @@ one_shown i m (Some l) rest k is =
     let shown : Key → List Need = λ l. record { mount = i; key = l; input = m.input } ∷ rest in
     ap shown (sym same)
 
--- one more that is wanted, before those that are left
+-- one more wanted cache is appended to the wanted ones, and is no longer among the needs that are left
 pub one_more : (ws : List Wanted) (w : Wanted) (rest : List Need) → map need_of (ws ++ w ∷ []) ++ rest ≡ map need_of ws ++ need_of w ∷ rest
 one_more [] w rest = refl
 one_more (v ∷ ws) w rest = ap (λ ns. need_of v ∷ ns) (one_more ws w rest)

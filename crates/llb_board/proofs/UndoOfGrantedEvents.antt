@@ -308,7 +308,7 @@ module _ (vs : VerticesValue) (first : List Row) (ws : WorkersValue) (es : List 
       let g = granted b n e r is in
       ap (undone u) g.is ∙ (undoes e g.answer u here g.grants marks).back
 
-  -- and it can be undone: the board before replays its record, and worker and vertex are as the event left them
+  -- a granted event can be undone: the board before replays its record, and worker and vertex are as the event left them
   pub walk_can : (n : BoardValue) (e : Event) (r : replied.Reply) (u : Displaced) → Replays b → walk_of b e ≡ Ok (n, r) → MarksIn vs ws e u → CanUndo u n
   walk_can n e r u here is marks =
       let g = granted b n e r is in

@@ -56,7 +56,7 @@ some_kind : (kinds : Kinds) (k : ErrorKind) → IsAmong k kinds → kinds ≢ []
 some_kind [] k among = absurd among
 some_kind (x ∷ xs) k among = λ e. absurd cc
 
--- where it refuses them, the page is that for its kind
+-- where clap refuses the words, the page is the one for the kind of its refusal
 pub by_clap : (kinds : Kinds) (locals words : List Text) (k : ErrorKind) (fault : WordsFault) (page : Text)
     → (k ≡ OutOfMemory) ⊎ IsAmong k kinds → IsFaultOfKind k fault → page ≡ page_for k (named_first words)
     → Refuses kinds locals fault × HasPage kinds words fault page

@@ -26,7 +26,7 @@ refuses_two old bytes e refused h =
     let passed : passed_on e ≡ Refused e = ap (λ b. cond b Loading (Refused e)) plain in
     inl (e, refused plain, passed)
 
--- and it is the refusal of the bytes that are known
+-- a refusal of two definitions is a refusal of the bytes that were read
 pub tells_two : (old bytes : List ℕ) (left : Option (List ℕ)) (p : ProgramFault) → IfSome left (λ xs. bytes ≡ xs)
     → (IsRefusal p → IsRefusedOfTwo old p bytes) → TellsRefusal (IsRefusedOfTwo old) left p
 tells_two old bytes left p read refused h =

@@ -19,7 +19,7 @@ none_both P = tt
 pub some_both : {A : Type 0} (P : A → A → Type 0) (x y : A) → P x y → BothOptions P (Some x) (Some y)
 some_both P x y h = h
 
--- one of two options, by the same test
+-- two choices between options, by equal tests, are alike if the options are
 pub cond_options : {A : Type 0} (P : A → A → Type 0) (a b : Bool) (o p q r : Option A) → a ≡ b → BothOptions P o p → BothOptions P q r
     → BothOptions P (cond a o q) (cond b p r)
 cond_options P a b o p q r same first second =
@@ -67,14 +67,14 @@ then_in {A = A} Q P o p f g same there each = subst (λ z. BothOptions P (option
 
 -- ---- results
 
--- one of two results, by the same test
+-- two choices between results, by equal tests, are alike if the results are
 pub cond_results : {A F : Type 0} (P : A → A → Type 0) (a b : Bool) (o p q r : Result A F) → a ≡ b → BothResults P o p → BothResults P q r
     → BothResults P (cond a o q) (cond b p r)
 cond_results P a b o p q r same first second =
     subst (λ c. BothResults P (cond a o q) (cond c p r)) same
     (elim a as (λ c. BothResults P (cond c o q) (cond c p r)) [ true ↦ first | false ↦ second ])
 
--- the same test before both
+-- two equal results, each followed by a call, are alike if what the calls return for each value is
 pub after_same : {A B F : Type 0} (P : B → B → Type 0) (x y : Result A F) (f g : A → Result B F) → x ≡ y
     → ((a : A) → BothResults P (f a) (g a)) → BothResults P (x >>= f) (y >>= g)
 after_same {A = A} {F = F} P x y f g same each = subst (λ z. BothResults P (x >>= f) (z >>= g)) same (by_result x)
@@ -104,7 +104,7 @@ pub in_after : {A B F : Type 0} (Q : A → Type 0) (P : B → Type 0) (x : Resul
 in_after Q P (Ok a) f h each = each a h
 in_after Q P (Err e) f h each = tt
 
--- the same before both, with a value of which Q holds
+-- two equal results, each followed by a call, are alike if what the calls return for each value of which Q holds is, and Q holds of theirs
 pub after_in : {A B F : Type 0} (Q : A → Type 0) (P : B → B → Type 0) (x y : Result A F) (f g : A → Result B F) → x ≡ y → InResult Q x
     → ((a : A) → Q a → BothResults P (f a) (g a)) → BothResults P (x >>= f) (y >>= g)
 after_in {A = A} {F = F} Q P x y f g same there each = subst (λ z. BothResults P (x >>= f) (z >>= g)) same (by_result x there)

@@ -66,7 +66,7 @@ module _ (t u : TreeMap) where
       by_test q true is = same q is
       by_test q false is = refl
 
-  -- the same paths match a pattern
+  -- trees that agree on the paths that match a pattern have the same paths that match it
   matching_same : (pattern : List (List Item)) → AgreeOn t u (EachMatch pattern) → matching pattern t ≡ matching pattern u
   matching_same pattern agree =
       filter_keys (path_matches pattern) (finite.entries t)

@@ -156,7 +156,7 @@ more_placed vertices kept h graph n y copies m so there is =
       ];
     }
 
--- the same for lists that equal these
+-- one more copy is placed, given lists that are equal to those of `IsPlaced`
 pub placed_step : (vertices : List Vertex) (kept : Places) (h : Numbered) → IsGraph h → (others : List Vertex) → others ≡ h.vertices → (n : ℕ) (y : Vertex)
     (copies so_far : List ℕ) (m : ℕ) (longer : List ℕ) → so_far ≡ copies → longer ≡ copies ++ m ∷ [] → ArePlaced vertices kept others n copies
     → slice_get others n ≡ Some y → IsPlaced vertices kept others so_far y m → ArePlaced vertices kept others (n + 1) longer

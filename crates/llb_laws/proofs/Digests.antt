@@ -151,12 +151,12 @@ module _ (b c : Build) (graph : IsGraph b.graph) (other : IsGraph c.graph) (ops 
         plain = plain_alike b c graph other IsOneBefore mount_alike top w (one_before w d);
       }
 
-  -- they do the same
+  -- two vertices with one digest do the same
   pub one_does_same : (w : ℕ) (d : HaveOneDigest b.graph top c.graph w) → DoTheSame b d.first c d.second
   unfolding do_alike one_before
   one_does_same w d = (do_alike top w (one_before w d)).same
 
-  -- and they begin on the same trees of their inputs
+  -- two vertices with one digest begin on the same trees of their inputs
   pub inputs_same : (w : ℕ) (d : HaveOneDigest b.graph top c.graph w) → inputs_from (plain b) d.first.inputs ≡ inputs_from (plain c) d.second.inputs
   unfolding do_alike one_before
   inputs_same w d =

@@ -85,7 +85,7 @@ one_op_each d e g h loaded v w x y first second same =
     let bytes = loaded.apart loaded.first.0 loaded.second.0 loaded.first.1 loaded.second.1 a.bytes b.bytes a.among b.among (sym a.digest ∙ same ∙ b.digest) in
     ok_inside x.op y.op (sym a.op ∙ ap op_of bytes ∙ b.op)
 
--- it holds of a graph and itself
+-- a graph and itself have one op each (`HaveOneOpEach`)
 pub one_op_alone : (g : Numbered) → IsGraph g → HaveOneOpEach g g
 one_op_alone g graph v w x y first second same =
     let at : v ≡ w = graph.distinct v w x (got_within g.vertices v x first) (got_within g.vertices w y second)

@@ -114,7 +114,7 @@ action_at (a ∷ actions) (suc j) step there = let h = action_at actions j step 
 abbrev files : List TreeMap → List TreeMap → Work
 files ts results = record { own = Files ts results; trees = [] }
 
--- the same with a fault, or without one
+-- the work of a file op so far, with a fault or without one
 abbrev so_far : List TreeMap → List TreeMap → Option VertexFault → Left
 so_far ts results fault = record { work = files ts results; fault = fault }
 

@@ -330,7 +330,7 @@ module _ (d : List ℕ) (g : Numbered) (graph : IsGraph g) (loaded : IsGraphIn d
       let at = same_first rows f.0 n (λ j l e. c.2 j l (e ∙ c.1)) first (c.1 ∙ sym (digest_in xs n pair.entry pair.first)) in
       ap (λ (dg : List ℕ). unwrap_or (first_with rows dg) 0) (digest_in ys m pair.entry pair.second) ∙ ap (λ (o : Option ℕ). unwrap_or o 0) f.1 ∙ at
 
-  -- so each edge between reached rows of the part goes down
+  -- so each edge between reached rows of the part goes down in rank
   goes_down : IsStarted q → GoesDown (links_in q) q.start (λ m. rank_in loaded.2.2.order (row_in_whole m))
   goes_down s m c reached edge =
       let order = loaded.2.2.order in

@@ -142,7 +142,7 @@ partnered_more g h graph other marks n y partners m so there is =
       ];
     }
 
--- the same for lists that equal these
+-- one more mark is made, given lists that are equal to the list of marks
 pub marked_step : (g : Numbered) → IsGraph g → (vs : List Vertex) → vs ≡ g.vertices → (n : ℕ) (x : Vertex) (marks firsts seconds : List ℕ) (m : ℕ)
     → (longer : List ℕ) → firsts ≡ marks → seconds ≡ marks → longer ≡ marks ++ m ∷ [] → MarkedTo vs n marks → slice_get vs n ≡ Some x
     → IsFirstLike vs n firsts seconds x m → MarkedTo vs (n + 1) longer

@@ -8,7 +8,7 @@ use Rattle.llb_board.specs.declared.fault.OpenFault.TheVariants as opening
 use Rattle.llb_board.specs.Opening.{may_work, open_of, open_unless}
 use Rattle.llb_board.specs.BoardValue.{BoardValue, opened}
 
--- it is a board on which nothing has happened
+-- a board that is opened is one on which nothing has happened
 pub open_gives : (b : Build) (cs : CachesValue) (n : ℕ) (c : BoardValue) → open_of b cs n ≡ Ok c → c ≡ opened b n cs.rows
 open_gives b cs n c e = by_missing (missing_local b.locals b.graph.vertices) e
   where

@@ -20,7 +20,7 @@ all_false p [] i d l e = absurd (omega (arith, l))
 all_false p (x ∷ xs) zero d l e = ap (λ b. b && list_all p xs) e
 all_false p (x ∷ xs) (suc i) d l e = ap (λ b. p x && b) (all_false p xs i d (omega (arith, l)) e) ∙ and_false (p x)
 
--- it passes if it passes at each place
+-- a list passes a test of all its items if each place passes it
 pub all_true : {X : Type 0} (p : X → Bool) (xs : List X) (d : X) → ((i : ℕ) → i < length xs → p (get_or xs i d) ≡ true) → list_all p xs ≡ true
 all_true p [] d each = refl
 all_true p (x ∷ xs) d each =

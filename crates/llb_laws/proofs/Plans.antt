@@ -96,7 +96,7 @@ pub spread_ends : (g : List (List ℕ)) (first marks : List Bool) (n : ℕ) → 
     → (k : ℕ) → IsMarked marks k ↔ ((top : ℕ) × IsMarked first top × Reached g top k)
 spread_ends g first marks n s k = (s.sound k, λ from. marked_along g first marks n s from.0 from.1 from.2.0 k from.2.1)
 
--- one edge more
+-- the vertex of one more edge is marked
 pub mark_more : (before marks : List Bool) (es : List Edge) (i : ℕ) (d : Edge) → i < length es → (get_or es i d).vertex < length marks
     → ((k : ℕ) → IsMarked marks k ↔ (IsMarked before k ⊎ Contains (take i (map (λ (e : Edge). e.vertex) es)) k))
     → (k : ℕ) → IsMarked (set marks (get_or es i d).vertex true) k ↔ (IsMarked before k ⊎ Contains (take (i + 1) (map (λ (e : Edge). e.vertex) es)) k)

@@ -58,6 +58,6 @@ module _ (g : Numbered) (P : ℕ → Type 0) (has : (v : ℕ) → P v → (x : V
       ∙ sym (ap (λ (ns : List ℕ). get_or ns i k) row) ∙ edge.2 in
       subst P at (step c q i no_edge l)
 
-  -- so it holds of each vertex, if it holds of the result's
+  -- so P holds of each vertex, if it holds of the result's
   pub of_each : IsGraph g → P g.result.vertex → (k : ℕ) → k < length g.vertices → P k
   of_each graph p k low = let w = graph.whole k low in along g.result.vertex p k w.0 w.1

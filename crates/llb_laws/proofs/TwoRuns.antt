@@ -57,7 +57,7 @@ after_keeps b (event.Step w) = recorded_build b (event.Step w) _ (step_grant b.b
 after_keeps b (event.Settle w) = recorded_build b (event.Settle w) _ (settle_grant b.build b.state w)
 after_keeps b (event.Cancel w) = recorded_build b (event.Cancel w) _ (cancel_grant b.state w)
 
--- so do events
+-- a list of events keeps the build of the board
 pub each_keeps : (b : BoardValue) (es : List Event) → (after_each b es).build ≡ b.build
 each_keeps b [] = refl
 each_keeps b (e ∷ es) = each_keeps (board_after b e) es ∙ after_keeps b e

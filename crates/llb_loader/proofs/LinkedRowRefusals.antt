@@ -257,7 +257,7 @@ module _ (l : Linked) (is : IsLinked l) (order : List ℕ) (whole : IsWhole (pla
     pub is_numbered : IsGraph (record { vertices = vs; result = x })
     is_numbered = is_graph (plan_in l) order whole is.len is.within ranks inverse vs vs_len built_in x result is.few short
 
-    -- they are the graph of the rows
+    -- the vertices and the result are the graph of the rows
     pub graph_of_rows : (g : Numbered) → g ≡ record { vertices = vs; result = x } → GraphOf l.rows.items l.ops.items g
     graph_of_rows g same = record {
       order = order;

@@ -14,7 +14,7 @@ use Rattle.llb_session.proofs.Streams.{between}
 use Rattle.llb_session.proofs.LinesOfBytes.{Spelled-byte, Spelled-end}
 use Rattle.llb_session.proofs.RepliesByPieces.{Talks-one, Talked-none, Talked-more}
 
--- ---- nothing was heard yet
+-- ---- no bytes were heard yet
 
 pub answered_none : (p : Standing) (o : Option (List ℕ)) → IsLine p.line → Answered p [] p.session (between o o)
 answered_none p o is = record { text = []; at = p; talked = Talked-none p is; same = refl; printed = Appends-nil o }
@@ -26,7 +26,7 @@ quit_none p t o o' is (quits, same, keeps) = record {
   quits = quits;
 }
 
--- its reply is cut short
+-- the reply is cut short before any byte is heard
 pub cut_none : (p : Standing) (t : Session) (o o' : Option (List ℕ)) → IsLine p.line → IsSaid p t (between o o') (Err Write) → CutShort p [] t (between o o')
 cut_none p t o o' is (said, answers, (front, rest, split, printed)) = record {
   text = [];
@@ -145,7 +145,7 @@ hears_over_quit p q bytes more o o' h = record {
   comes = h.comes;
 }
 
--- ---- all of them were
+-- ---- all bytes were heard
 
 -- where the session goes on, all the bytes were heard
 pub went_all : (p q : Standing) (bytes : List ℕ) (o o' : Option (List ℕ)) → Hears p bytes q (between o o') (Ok true) → Went p bytes q (between o o')
@@ -158,7 +158,7 @@ all_went p q bytes o o' w = record { heard = bytes; unheard = []; split = sym (a
 
 -- ---- one byte
 
--- it is no line end, and is added to the line that is begun
+-- a byte that is no line end is added to the line that is begun
 pub byte_on_line : (p : Standing) (b : ℕ) (line : List ℕ) (o : Option (List ℕ)) → IsLine p.line → b ≢ 10 → line ≡ p.line ++ b ∷ []
     → Hears p (b ∷ []) (record p { line = line }) (between o o) (Ok true)
 byte_on_line p b line o is other e =

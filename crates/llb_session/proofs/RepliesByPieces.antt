@@ -31,7 +31,7 @@ Talked-more p q r bytes more text said a b = record {
   count = omega (arith, a.count, b.count, length-append a.lines b.lines);
 }
 
--- nothing is heard
+-- where no bytes are heard, no line is, and there is no reply
 pub Talked-none : (p : Standing) → IsLine p.line → Talked p [] [] p
 Talked-none p is = record { lines = []; spelled = Spelled-none p.line is; talks = (refl, refl); count = omega arith }
 

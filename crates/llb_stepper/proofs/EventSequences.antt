@@ -45,7 +45,7 @@ pub record BackTo (s t : Stepping) (i : ℕ) : Type 0 where
 inside : {A : Type 0} {x y : A} → Some x ≡ Some y → x ≡ y
 inside e = cc
 
--- one event more
+-- one more event of the list is done
 one_on : (b c d : BoardValue) (r : Reply) (es : List Event) (i : ℕ) (e : Event) → run_on b (take i es) ≡ Some c → slice_get es i ≡ Some e → answered c e
     ≡ Some (d, r)
     → run_on b (take (suc i) es) ≡ Some d
@@ -85,7 +85,7 @@ same_stepping s t e f =
     let q : s.past ≡ t.past = cc in
     λ i. record { board = p i; past = q i; breaks = f i }
 
--- one event fewer
+-- one more event is taken back
 pub one_fewer : {A E : Type 0} (s t u : Stepping) (i : ℕ) (r : Result A E) → BackTo s t i → i < length s.past → OnOk r (GoesBack t u) → OnErr r (t.past
     ≡ []) → BackTo s u (i + 1)
 one_fewer s t u i (Ok x) kept lt ok err =

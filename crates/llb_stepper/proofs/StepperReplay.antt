@@ -28,7 +28,7 @@ meets_none b [] k = refl
 meets_none b (e ∷ es) zero = by_none e (answered b e)
 meets_none b (e ∷ es) (suc k) = from_none (answered b e) (λ c. meets_at [] c es k) (λ c. meets_none c es k)
 
--- so a stop is at the end of the list
+-- if no events are left, the replay stops at the end of the list
 at_end : (flag : Bool) (b : BoardValue) (es : List Event) (n : ℕ) → EndsAt flag [] b es n → n ≡ length es
 at_end true b es n met = absurd (differ met.1.1 (meets_none b es met.0))
   where

@@ -9,7 +9,7 @@ use Rattle.std.specs.Fmt.{decimal}
 use Rattle.std.specs.Cmp.Lexicographic.{pointwise, bytes_decides}
 use Rattle.llb_treetext.specs.LineFields.{on, number_from, decimal_in}
 
--- one more digit, where the number stays small
+-- reading the next digit, where the number stays below 2 ^ 32
 pub number_more : (n b : ℕ) (text : List ℕ) → n * 10 + (b - 48) < 2 ^ 32 → number_from n (b ∷ text) ≡ number_from (n * 10 + (b - 48)) text
 unfolding number_from
 number_more n b text small = ap (λ t. cond t (number_from (n * 10 + (b - 48)) text) None) (lt-ltb _ _ small)

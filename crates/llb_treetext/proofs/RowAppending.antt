@@ -78,7 +78,7 @@ module _ (t : TreeMap) (tree : IsTree t) (row : Pair) (is : IsRow row) (next : c
   pub not_there : finite.get t row.0 ≡ None
   not_there = finite.get-entries t row.0 ∙ ap (finite.find path_cmp row.0) some_rows.1.1 ∙ find_behind some_rows.0 some_rows.1.0 row.0 sorted behind
 
-  -- so it is not the root, which every tree has
+  -- so the row's path is not the root's, which every tree has
   pub not_root : row.0 ≢ []
   not_root at = let e : ◌≡◌ {A = Option Entry} None (Some (Dir tree.root.0)) = sym not_there ∙ ap (finite.get t) at ∙ tree.root.1 in absurd cc
 

@@ -51,7 +51,7 @@ module _ (t : TreeMap) (tree : IsTree t) where
   pub there : (k : ℕ) (x : Pair) → slice_get (finite.entries t) k ≡ Some x → finite.get t x.0 ≡ Some x.1
   there k x is = finite.get-entries t x.0 ∙ find_here (finite.entries t) k x (finite.entries_sorted t) is
 
-  -- it is allowed at its path, and at the root it is a directory, so it is a row
+  -- a listed entry is allowed at its path, and at the root it is a directory, so it is a row
   pub entry_is_row : (k : ℕ) (x : Pair) → slice_get (finite.entries t) k ≡ Some x → IsRow x
   entry_is_row k x is = record {
     allowed = tree.allowed x.0 x.1 (there k x is);

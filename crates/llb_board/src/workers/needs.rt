@@ -90,8 +90,8 @@ fn last_locked<'a>(caches: &Caches, vertex: &'a Vertex) -> Result<Option<usize>,
     Ok(row)
 }
 
-// Looks up the caches that a vertex mounts. For each key, the row with the number `near` is tried first. Fails with 5 `Memory` alone, as do the functions
-// below.
+// Looks up the caches that a vertex mounts. For each key, the row with the number `near` is tried first. Fails with 5 `Memory` alone, as do those
+// functions below that allocate.
 fn wants<'a>(
     alloc: Global,
     caches: &'a Caches,

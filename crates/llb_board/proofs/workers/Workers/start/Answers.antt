@@ -14,7 +14,7 @@ use Rattle.llb_board.proofs.TableStepOfWorker.{seen_of}
 use Rattle.llb_board.proofs.workers.Workers.start.Goals as goal
 use Rattle.llb_board.proofs.workers.Workers.start.Goals.{After-is_exclusive, In-Ok}
 
--- it was begun on this state, over the fields
+-- the claim was begun on this state, which is given here by the fields of the workers
 on : (c : After-is_exclusive) → IsBegunAt c.args.vertices.now (seen_of c.self.inside.seats.items c.self.inside.caches.rows) c.args.begun.job.worker
     c.args.begun.job.vertex c.args.begun
 on c =
