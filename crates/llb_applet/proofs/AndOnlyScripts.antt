@@ -5,8 +5,8 @@ use Rattle.std.specs.List.{slice_split, onto_first, list_all}
 use Rattle.std.specs.Cmp.Lexicographic.{bytes_decides}
 use Rattle.std.proofs.lemmas.Bool.{false≢true}
 use Rattle.std.proofs.lemmas.List.Splits.{slice_split-cons_yes, slice_split-cons_no}
-use Rattle.llb_applet.specs.declared.join.Join.{Join}
-use Rattle.llb_applet.specs.declared.join.Join.TheVariants.{Then, And}
+use Rattle.llb_applet.specs.declared.joined_commands.Join.{Join}
+use Rattle.llb_applet.specs.declared.joined_commands.Join.TheVariants.{Then, And}
 use Rattle.llb_applet.specs.Words.{join_of, is_separator, Call, at_word, calls_from}
 use Rattle.llb_applet.specs.ScriptTextLaws.{is_and, texts_of, only_ands, follows_success, joined_by_ands, IsSplitAtAnds}
 

@@ -8,7 +8,7 @@ use Rattle.std.proofs.lemmas.List.{append-nil}
 use Rattle.std.specs.Ordering.{is_eq, eq_by_cmp}
 use Rattle.std.specs.Result.{OnOk}
 use Rattle.std.specs.FinMap as finite
-use Rattle.llb_wire.specs.Answer.{◌>>=◌}
+use Rattle.llb_wire.specs.CallResults.{◌>>=◌}
 use Rattle.llb_wire.proofs.RuleComposition.{bind_ok}
 use Rattle.llb_tree.specs.Path.{path_cmp, is_within}
 use Rattle.llb_tree.specs.PathOrder.{path_cmp-IsTotalOrder, path_cmp-IsAntisymmetric, same_path}
@@ -22,7 +22,7 @@ use Rattle.llb_tree.proofs.EditedMaps.{by_place, tied_below, apart, none_below}
 use Rattle.llb_tree.proofs.PathsBelow.{within-append, cmp-append}
 use Rattle.llb_tree.specs.declared.fault.TreeFault.{TreeFault}
 use Rattle.llb_tree.specs.declared.fault.TreeFault.TheVariants.{BadName}
-use Rattle.llb_applet.specs.ViewSpots.{dir_at, dirs_below, put_then_below}
+use Rattle.llb_applet.specs.PathsInMounts.{dir_at, dirs_below, put_then_below}
 
 one_value : (s t : TreeMap) → ◌≡◌ {A = Result TreeMap TreeFault} (Ok s) (Ok t) → s ≡ t
 one_value s t is = cc

@@ -4,15 +4,15 @@ use Rattle.std.specs.Prelude.{is_some, not, ◌||◌, ◌&&◌, Result, Ok, Err}
 use Rattle.std.specs.List.{flat_map}
 use Rattle.std.specs.Result.{result_ok}
 use Rattle.std.specs.FinMap as finite
-use Rattle.llb_wire.specs.Answer as answer
+use Rattle.llb_wire.specs.CallResults as answer
 use Rattle.llb_wire.specs.Digest.{digits_of}
 use Rattle.llb_tree.specs.declared.fault.TreeFault.{TreeFault}
 use Rattle.llb_tree.specs.Path.{below}
 use Rattle.llb_tree.specs.Tree as tree
 use Rattle.llb_tree.specs.Tree.{Entry, TreeMap, MetaValue, all_dirs, list, is_dir, put_dir, remove, new_dir_meta}
 use Rattle.llb_mount.specs.View.{mount_at, with_tree_of}
-use Rattle.llb_applet.specs.declared.setting.Setting.{Setting}
-use Rattle.llb_applet.specs.declared.spot.Spot.{Spot}
+use Rattle.llb_applet.specs.declared.directory_and_variables.Setting.{Setting}
+use Rattle.llb_applet.specs.declared.path_in_mount.Spot.{Spot}
 use Rattle.llb_applet.specs.declared.command.Kind.{Kind}
 use Rattle.llb_applet.specs.declared.command.Kind.TheVariants.{Something, File, Dir}
 use Rattle.llb_applet.specs.declared.command.Command.{Command}
@@ -20,8 +20,8 @@ use Rattle.llb_applet.specs.declared.command.Command.TheVariants as command
 use Rattle.llb_applet.specs.declared.cause.Cause.{Cause}
 use Rattle.llb_applet.specs.declared.cause.Cause.TheVariants.{NoPath, At}
 use Rattle.llb_applet.specs.declared.cause.What.TheVariants as what
-use Rattle.llb_applet.specs.ViewSpots.{Mounts, spot_of, tree_at, entry_at, is_dest, file_in, with_change, with_file, with_dir, without_spot, with_new_dir}
-use Rattle.llb_applet.specs.ViewSpots.{with_dirs, dirs_below}
+use Rattle.llb_applet.specs.PathsInMounts.{Mounts, spot_of, tree_at, entry_at, is_dest, file_in, with_change, with_file, with_dir, without_spot, with_new_dir}
+use Rattle.llb_applet.specs.PathsInMounts.{with_dirs, dirs_below}
 use Rattle.llb_applet.specs.Commands.{path_by, spot_by, file_by, last_name, target_of, joined, listed, listing_by, with_mode, is_kind, run, status_of}
 use Rattle.llb_applet.specs.Commands.{new_meta, line}
 use Rattle.llb_applet.specs.Commands.{◌>>=◌, writes, written}

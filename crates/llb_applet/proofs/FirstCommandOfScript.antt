@@ -1,12 +1,12 @@
 -- The first command of a script always runs.
 use Rattle.std.proofs.Common.{◌≡◌, ℕ, ◌+◌, List, [], ◌∷◌, ◌++◌, Option, Some, None, Result, Ok, Err, refl, map, slice_index_or}
 use Rattle.std.specs.Prelude.{Bool, true, false, if◌then◌else◌}
-use Rattle.llb_wire.specs.Answer.{◌>>=◌}
+use Rattle.llb_wire.specs.CallResults.{◌>>=◌}
 use Rattle.llb_applet.specs.declared.fault.ScriptFault.{ScriptFault}
 use Rattle.llb_applet.specs.declared.command.Command.{Command}
-use Rattle.llb_applet.specs.declared.join.Join.{Join}
-use Rattle.llb_applet.specs.declared.join.Join.TheVariants.{Then}
-use Rattle.llb_applet.specs.declared.join.Joined.{Joined}
+use Rattle.llb_applet.specs.declared.joined_commands.Join.{Join}
+use Rattle.llb_applet.specs.declared.joined_commands.Join.TheVariants.{Then}
+use Rattle.llb_applet.specs.declared.joined_commands.Joined.{Joined}
 use Rattle.llb_applet.specs.Words.{Call, join_of, first_call, at_word, calls_from, calls_of, bad_place_of, words_of}
 use Rattle.llb_applet.specs.Calls.{command_of}
 use Rattle.llb_applet.specs.Scripts.{joined, commands_of, commands_unless, commands_in, is_shell, script_of, BeginsWithThen}

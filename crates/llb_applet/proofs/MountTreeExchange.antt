@@ -5,10 +5,10 @@ use Rattle.std.proofs.lemmas.List.{set-set, set-get_or, get_or-set_same}
 use Rattle.llb_tree.specs.declared.fault.TreeFault.{TreeFault}
 use Rattle.llb_tree.specs.declared.fault.TreeFault.TheVariants as tree
 use Rattle.llb_tree.specs.Tree.{TreeMap, Gives}
-use Rattle.llb_mount.specs.declared.shown.Shown.{Shown}
+use Rattle.llb_mount.specs.declared.shown_tree.Shown.{Shown}
 use Rattle.llb_mount.specs.View.{mount_at, no_mount, with_tree_of}
 use Rattle.llb_wire.specs.declared.fault.Memory.{Memory}
-use Rattle.llb_applet.specs.ViewSpots.{Mounts, with_change}
+use Rattle.llb_applet.specs.PathsInMounts.{Mounts, with_change}
 use Rattle.llb_applet.specs.ViewChanges.{Does, settled}
 
 module _ (view : Mounts) (mount : ℕ) where

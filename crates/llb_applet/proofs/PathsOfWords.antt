@@ -1,9 +1,9 @@
 -- A word that names a file is a path; and of several words that name files, the first is a path.
 use Rattle.std.proofs.Common.{◌≡◌, ℕ, zero, suc, ◌<◌, ◌++◌, List, [], ◌∷◌, Option, Some, None, option_map, refl, subst, get_or, length, arith}
 use Rattle.std.specs.Prelude.{IsSome, OnErr, Result, Ok, Err, option_and_then, slice_get, unwrap_or}
-use Rattle.llb_tree.specs.Meta.{MetaValue}
-use Rattle.llb_applet.specs.declared.setting.Setting.{Setting}
-use Rattle.llb_applet.specs.ViewSpots.{Mounts, spot_of, entry_at, file_in}
+use Rattle.llb_tree.specs.ModeAndOwner.{MetaValue}
+use Rattle.llb_applet.specs.declared.directory_and_variables.Setting.{Setting}
+use Rattle.llb_applet.specs.PathsInMounts.{Mounts, spot_of, entry_at, file_in}
 use Rattle.llb_applet.specs.Commands.{◌>>=◌, path_by, file_by, joined}
 
 -- what holds in any case also holds where a result is a refusal; and two facts that hold of a refusal give a third

@@ -9,8 +9,8 @@ use Rattle.std.proofs.lemmas.Bool.Decides.{nat_tests}
 use Rattle.std.proofs.lemmas.List.{length_push}
 use Rattle.std.proofs.lemmas.List.Elements.{All-cons, All-nil}
 use Rattle.std.proofs.lemmas.List.Splits.{slice_split_none, slice_split_at}
-use Rattle.llb_applet.specs.declared.join.Join.{Join}
-use Rattle.llb_applet.specs.declared.join.Join.TheVariants.{Then, And, Or}
+use Rattle.llb_applet.specs.declared.joined_commands.Join.{Join}
+use Rattle.llb_applet.specs.declared.joined_commands.Join.TheVariants.{Then, And, Or}
 use Rattle.llb_applet.specs.Applets.{spells}
 use Rattle.llb_applet.specs.Words.{Word, parts_of, placed, words_of, is_word, join_of, is_separator, is_word_byte, bad_in, bad_place, bad_place_of}
 use Rattle.llb_applet.specs.Words.{Call, at_word, calls_from, calls_of}

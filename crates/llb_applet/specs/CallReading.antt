@@ -1,9 +1,9 @@
 -- The state while calls are read from a text: what is known of the current call, and the result that follows from this state and the remaining words.
 use Rattle.std.specs.Prelude.{◌≡◌, ℕ, ◌==◌, true, false, if◌then◌else◌, List, [], ◌∷◌, ◌++◌, length, Result, Ok, Err, slice_index_or}
-use Rattle.llb_wire.specs.Answer.{◌>>=◌}
+use Rattle.llb_wire.specs.CallResults.{◌>>=◌}
 use Rattle.llb_applet.specs.declared.fault.ScriptFault.{ScriptFault}
-use Rattle.llb_applet.specs.declared.join.Join.TheVariants.{Then}
-use Rattle.llb_applet.specs.declared.join.Joined.{Joined}
+use Rattle.llb_applet.specs.declared.joined_commands.Join.TheVariants.{Then}
+use Rattle.llb_applet.specs.declared.joined_commands.Joined.{Joined}
 use Rattle.llb_applet.specs.declared.script.Reading.{Reading}
 use Rattle.llb_applet.specs.declared.call.Begun.{Begun}
 use Rattle.llb_applet.specs.CallResults.{is_memory, names_word}

@@ -2,7 +2,7 @@
 -- a value or a fault, but never the fault `Memory`.
 use Rattle.std.specs.Prelude.{◌≡◌, ℕ, Bool, true, false, ◌||◌, List, ◌++◌, Result, Ok, Err, is_ok, codes}
 use Rattle.std.specs.Fmt.{decimal}
-use Rattle.llb_wire.specs.Answer as answer
+use Rattle.llb_wire.specs.CallResults as answer
 use Rattle.llb_applet.specs.declared.fault.ScriptFault.{ScriptFault}
 use Rattle.llb_applet.specs.declared.fault.ScriptFault.TheVariants.{NoApplet, Usage, ShellSyntax, Memory}
 

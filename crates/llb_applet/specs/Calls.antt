@@ -11,7 +11,7 @@ use Rattle.llb_applet.specs.declared.command.Command.TheVariants as command
 use Rattle.llb_applet.specs.declared.applet.Applet.{Applet}
 use Rattle.llb_applet.specs.declared.applet.Applet.TheVariants.{True, False, Mkdir, Rm, Write, Append, Cp, Concat, Chmod, Test, Listing, Envfile, Sha256}
 use Rattle.llb_applet.specs.Applets.{spells, applet_of}
-use Rattle.llb_tree.specs.Modes.{mode_of}
+use Rattle.llb_tree.specs.ModeTexts.{mode_of}
 
 -- the bytes of a word
 abbrev Word : Type 0

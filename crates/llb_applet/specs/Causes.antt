@@ -11,8 +11,8 @@ use Rattle.llb_tree.specs.Path.{below}
 use Rattle.llb_tree.specs.Tree as tree
 use Rattle.llb_tree.specs.Tree.{Entry, TreeMap, put_file, put_dir, remove, new_dir_meta, is_dir}
 use Rattle.llb_mount.specs.View.{mount_at}
-use Rattle.llb_applet.specs.declared.setting.Setting.{Setting}
-use Rattle.llb_applet.specs.declared.spot.Spot.{Spot}
+use Rattle.llb_applet.specs.declared.directory_and_variables.Setting.{Setting}
+use Rattle.llb_applet.specs.declared.path_in_mount.Spot.{Spot}
 use Rattle.llb_applet.specs.declared.command.Kind.{Kind}
 use Rattle.llb_applet.specs.declared.command.Kind.TheVariants.{Something, File, Dir}
 use Rattle.llb_applet.specs.declared.command.Command.{Command}
@@ -20,7 +20,7 @@ use Rattle.llb_applet.specs.declared.command.Command.TheVariants as command
 use Rattle.llb_applet.specs.declared.cause.Cause.{Cause}
 use Rattle.llb_applet.specs.declared.cause.Cause.TheVariants.{Always, NoPath, At}
 use Rattle.llb_applet.specs.declared.cause.What.TheVariants as what
-use Rattle.llb_applet.specs.ViewSpots.{Mounts, spot_of, tree_at, entry_at, is_dest, file_in, dirs_below}
+use Rattle.llb_applet.specs.PathsInMounts.{Mounts, spot_of, tree_at, entry_at, is_dest, file_in, dirs_below}
 use Rattle.llb_applet.specs.Commands.{path_by, last_name, new_meta}
 
 -- a path, as the list of its names

@@ -9,13 +9,13 @@ use Rattle.llb_wire.specs.Digest.{digits_of}
 use Rattle.llb_tree.specs.Path.{path_from, below}
 use Rattle.llb_tree.specs.Tree as tree
 use Rattle.llb_tree.specs.Tree.{Entry, TreeMap, MetaValue, list, is_dir}
-use Rattle.llb_applet.specs.declared.setting.Setting.{Setting}
-use Rattle.llb_applet.specs.declared.spot.Spot.{Spot}
+use Rattle.llb_applet.specs.declared.directory_and_variables.Setting.{Setting}
+use Rattle.llb_applet.specs.declared.path_in_mount.Spot.{Spot}
 use Rattle.llb_applet.specs.declared.command.Kind.{Kind}
 use Rattle.llb_applet.specs.declared.command.Kind.TheVariants.{Something, File, Dir}
 use Rattle.llb_applet.specs.declared.command.Command.{Command}
 use Rattle.llb_applet.specs.declared.command.Command.TheVariants as command
-use Rattle.llb_applet.specs.ViewSpots.{Mounts, spot_of, tree_at, entry_at, file_in, with_file, with_dir, without_spot, with_new_dir, with_dirs}
+use Rattle.llb_applet.specs.PathsInMounts.{Mounts, spot_of, tree_at, entry_at, file_in, with_file, with_dir, without_spot, with_new_dir, with_dirs}
 
 infixl 10 ◌>>=◌
 -- f applied to a value, if there is one; else nothing

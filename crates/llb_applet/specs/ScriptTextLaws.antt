@@ -2,8 +2,8 @@
 -- commands. If every separator of a text is `&&`, its calls are the lists of words between the separators.
 use Rattle.std.specs.Prelude.{◌≡◌, ℕ, ◌==◌, Bool, true, false, ◌&&◌, ◌||◌, not, IsTrue, List, [], ◌∷◌, ◌++◌, length, map, codes}
 use Rattle.std.specs.List.{list_all, join_with_byte, slice_split}
-use Rattle.llb_applet.specs.declared.join.Join.{Join}
-use Rattle.llb_applet.specs.declared.join.Join.TheVariants.{Then, And, Or}
+use Rattle.llb_applet.specs.declared.joined_commands.Join.{Join}
+use Rattle.llb_applet.specs.declared.joined_commands.Join.TheVariants.{Then, And, Or}
 use Rattle.llb_applet.specs.Applets.{spells}
 use Rattle.llb_applet.specs.Words.{words_of, is_separator, Call, is_word_byte, calls_of}
 use Rattle.llb_applet.specs.Scripts.{commands_in}

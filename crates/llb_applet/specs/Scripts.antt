@@ -1,12 +1,12 @@
 -- The script that arguments are read as: the commands of the text after `/bin/sh -c`, or else the command of one call.
 use Rattle.std.specs.Prelude.{◌≡◌, ℕ, ◌+◌, ◌==◌, Bool, ◌&&◌, if◌then◌else◌, List, [], ◌∷◌, length, slice_index_or, Option, Some, None, Result, Ok, Err, codes}
-use Rattle.llb_wire.specs.Answer.{◌>>=◌}
+use Rattle.llb_wire.specs.CallResults.{◌>>=◌}
 use Rattle.llb_applet.specs.declared.fault.ScriptFault.{ScriptFault}
 use Rattle.llb_applet.specs.declared.fault.ScriptFault.TheVariants.{ShellSyntax}
 use Rattle.llb_applet.specs.declared.command.Command.{Command}
-use Rattle.llb_applet.specs.declared.join.Join.{Join}
-use Rattle.llb_applet.specs.declared.join.Join.TheVariants.{Then}
-use Rattle.llb_applet.specs.declared.join.Joined.{Joined}
+use Rattle.llb_applet.specs.declared.joined_commands.Join.{Join}
+use Rattle.llb_applet.specs.declared.joined_commands.Join.TheVariants.{Then}
+use Rattle.llb_applet.specs.declared.joined_commands.Joined.{Joined}
 use Rattle.llb_applet.specs.Applets.{spells}
 use Rattle.llb_applet.specs.Words.{Call, first_call, bad_place_of, calls_of}
 use Rattle.llb_applet.specs.Calls.{command_of}

@@ -5,7 +5,7 @@ use Rattle.llb_tree.specs.declared.fault.TreeFault.TheVariants as tree
 use Rattle.llb_tree.specs.Tree.{TreeMap, empty_tree}
 use Rattle.llb_mount.specs.View.{mount_at, with_tree_of}
 use Rattle.llb_wire.specs.declared.fault.Memory.{Memory}
-use Rattle.llb_applet.specs.ViewSpots.{Mounts}
+use Rattle.llb_applet.specs.PathsInMounts.{Mounts}
 
 -- a mount's tree is taken out and replaced by an empty one; or the mount is read-only, or it is not and memory is refused, and nothing changes
 abbrev pub PutsAside : Result (Option TreeMap) Memory → Mounts → ℕ → Mounts → Type 0

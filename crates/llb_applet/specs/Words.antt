@@ -4,8 +4,8 @@ use Rattle.std.specs.Prelude.{ℕ, ◌+◌, ◌==◌, nat_le, Bool, false, ◌&&
 use Rattle.std.specs.Prelude.{Option, Some, None, is_some, option_map, codes}
 use Rattle.std.specs.List.{slice_split, position, list_any}
 use Rattle.std.specs.Option.{option_or}
-use Rattle.llb_applet.specs.declared.join.Join.{Join}
-use Rattle.llb_applet.specs.declared.join.Join.TheVariants.{Then, And, Or}
+use Rattle.llb_applet.specs.declared.joined_commands.Join.{Join}
+use Rattle.llb_applet.specs.declared.joined_commands.Join.TheVariants.{Then, And, Or}
 use Rattle.llb_applet.specs.Applets.{spells}
 
 -- a word, and the position of its first byte

@@ -10,7 +10,7 @@ ghost use Rattle.llb_applet.specs.CallReading.{IsBegun, Judges, JudgesCall, verd
 use crate::applet::Applet;
 use crate::command::is_form;
 use crate::fault::ScriptFault;
-use crate::words::is_separator;
+use crate::first_bad_position::is_separator;
 use llb_wire::Text;
 use std::alloc::Global;
 

@@ -2,16 +2,16 @@
 
 ghost use Rattle.std.specs.Prelude.{◌≡◌, ◌==◌, ◌<◌, ◌+◌, ◌^◌, Ok, Some, is_some, length, IfOk};
 ghost use Rattle.llb_applet.specs.declared.cause.Cause.TheVariants.{Always, NoPath, At};
-ghost use Rattle.llb_applet.specs.ViewSpots.{entry_at};
+ghost use Rattle.llb_applet.specs.PathsInMounts.{entry_at};
 ghost use Rattle.llb_applet.specs.Commands.{run, status_of};
 ghost use Rattle.llb_applet.specs.Causes.{first_of, nothing, no_file, no_dir, no_kind, no_mode, no_removal, not_written, not_read, none_read, not_into};
 ghost use Rattle.llb_applet.specs.Causes.{not_copied_to, not_copied, dir_word, not_made, cause_of, at_word};
 
 use crate::command::{Command, Kind};
+use crate::directory_and_variables::Setting;
 use crate::edit_cause::{no_dirs, no_file_put, no_mode, no_new_dir, no_removal};
 use crate::fault;
-use crate::setting::Setting;
-use crate::spot::{Spot, path_by, spot_of};
+use crate::path_in_mount::{Spot, path_by, spot_of};
 use llb_mount::View;
 use llb_tree::{Entry, Path, TreeFault};
 use llb_wire::{Memory, Text};

@@ -7,7 +7,7 @@ ghost use Rattle.llb_applet.specs.Calls.{alone, pair, kind_of, form, command_of,
 
 use crate::applet::{Applet, is_word};
 use crate::fault::ScriptFault;
-use crate::texts::copies;
+use crate::text_copies::copies;
 use llb_tree::Mode;
 use llb_wire::{Many, Same, Text};
 use std::alloc::Global;

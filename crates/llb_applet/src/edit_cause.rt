@@ -4,13 +4,13 @@ ghost use Rattle.std.specs.Prelude.{◌≡◌, ◌≤◌, ◌<◌, ◌+◌, Some
 ghost use Rattle.std.specs.FinMap as finite;
 ghost use Rattle.llb_tree.specs.Tree.{remove};
 ghost use Rattle.llb_mount.specs.View.{mount_at};
-ghost use Rattle.llb_applet.specs.ViewSpots.{IsSpot, tree_at, entry_at, file_in, dirs_below};
+ghost use Rattle.llb_applet.specs.PathsInMounts.{IsSpot, tree_at, entry_at, file_in, dirs_below};
 ghost use Rattle.llb_applet.specs.Causes.{parent, no_parent, by_fault, no_change, fault_in, IsFault, no_edit, file_fault, dir_fault, no_file_put, no_mode};
 ghost use Rattle.llb_applet.specs.Causes.{no_new_dir, no_removal, file_on, no_dirs_by, no_dest_dir, no_dirs};
 
 use crate::cause::{Cause, What, at};
-use crate::change::make_below;
-use crate::spot::{Spot, extended, new_meta};
+use crate::path_in_mount::{Spot, extended, new_meta};
+use crate::view_changes::make_below;
 use llb_mount::View;
 use llb_tree::{Bytes, Entry, Meta, Name, Path, Tree, TreeFault};
 use llb_wire::Memory;

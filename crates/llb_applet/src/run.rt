@@ -3,17 +3,17 @@
 
 ghost use Rattle.std.specs.Prelude.{◌≡◌, ◌≢◌, IfOk, IfSome, OnOk, OnErr, IsSome, option_and_then, unwrap_or, slice_get};
 ghost use Rattle.llb_applet.specs.declared.command.Command.TheVariants as command;
-ghost use Rattle.llb_applet.specs.ViewSpots.{IsSpot, entry_at};
+ghost use Rattle.llb_applet.specs.PathsInMounts.{IsSpot, entry_at};
 ghost use Rattle.llb_applet.specs.Commands.{run, status_of, left, writes, written, copied, joined, target_of, with_mode, is_kind};
 ghost use Rattle.llb_applet.specs.Commands.{path_by, MayWant};
 ghost use Rattle.llb_applet.specs.ViewChanges.{Does};
 
-use crate::change::{make_dir, make_dirs, put_dir, put_file, put_shared, remove};
 use crate::command::{Command, Kind};
-use crate::content::{envfile, joined, line, listing_by, more, sha256_by};
+use crate::directory_and_variables::Setting;
 use crate::fault;
-use crate::setting::Setting;
-use crate::spot::{Spot, meta_in, path_by, spot_by, spot_of};
+use crate::path_in_mount::{Spot, meta_in, path_by, spot_by, spot_of};
+use crate::view_changes::{make_dir, make_dirs, put_dir, put_file, put_shared, remove};
+use crate::written_contents::{envfile, joined, line, listing_by, more, sha256_by};
 use llb_mount::View;
 use llb_tree::{Bytes, Entry, Meta, Mode, Path, TreeFault};
 use llb_wire::{Memory, Text};

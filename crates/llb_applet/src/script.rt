@@ -10,9 +10,9 @@ use crate::applet::is_word;
 use crate::call::{Begun, judge_text};
 use crate::command::command_of;
 use crate::fault::ScriptFault;
-use crate::join::{Join, Joined};
-use crate::texts::copies;
-use crate::words::{bad_place, join_of};
+use crate::first_bad_position::{bad_place, join_of};
+use crate::joined_commands::{Join, Joined};
+use crate::text_copies::copies;
 use llb_wire::{Same, Text, all_same};
 use std::alloc::Global;
 use std::marker::Model;
@@ -34,7 +34,7 @@ impl Drop for Script {
 impl Model for Script {
     ghost use Rattle.std.specs.Prelude.{List};
     ghost use Rattle.std.specs.Arc.{arc_value};
-    ghost use Rattle.llb_applet.specs.declared.join.Joined.{Joined};
+    ghost use Rattle.llb_applet.specs.declared.joined_commands.Joined.{Joined};
     ghost use Rattle.llb_applet.specs.Scripts.{BeginsWithThen};
 
     ghost Value = { List Joined };

@@ -1,6 +1,6 @@
 -- A line that is not refused adds to the items of the op that is open, closes it, or begins an entry.
 use Rattle.std.proofs.Common.{◌≡◌, ◌≢◌, refl, sym, ap, ◌∙◌, ℕ, List, [], ◌∷◌, ◌++◌, append_assoc, Result, Ok, Err, ◌⊎◌, inl, inr}
-use Rattle.llb_wire.specs.Answer.{◌>>=◌}
+use Rattle.llb_wire.specs.CallResults.{◌>>=◌}
 use Rattle.llb_ops.specs.declared.table.MessageName.{MessageName}
 use Rattle.llb_ops.specs.Writing.{set_bytes}
 use Rattle.llb_asm.specs.declared.line.Refusal.{Refusal}
@@ -9,7 +9,7 @@ use Rattle.llb_asm.specs.declared.line.Held.{Held}
 use Rattle.llb_asm.specs.declared.line.Held.TheVariants.{Record, Opens}
 use Rattle.llb_asm.specs.declared.entry.Begun.{Begun}
 use Rattle.llb_asm.specs.declared.entry.Begun.TheVariants.{Raw, Structured}
-use Rattle.llb_asm.specs.declared.open.Frame.{Frame}
+use Rattle.llb_asm.specs.declared.open_op.Frame.{Frame}
 use Rattle.llb_asm.specs.EntryLine.{inside}
 use Rattle.llb_asm.specs.TextGrammar.{Items, done, single, nested, unclosed, lines_of, records_of, IsWhole, item, closing}
 use Rattle.llb_asm.specs.TextGrammar.{Entries, none, raw, op, open_op, text_of, AreEntries, begun_in, entry_in}

@@ -4,7 +4,7 @@ use Rattle.llb_asm.specs.declared.fault.AsmFault.{AsmFault}
 use Rattle.llb_asm.specs.declared.fault.AsmFault.TheVariants as fault
 use Rattle.llb_asm.specs.declared.line.Refusal.{Refusal}
 use Rattle.llb_asm.specs.declared.line.Refusal.TheVariants.{Breaks, UnknownLabel}
-use Rattle.llb_asm.specs.declared.open.Frame.{Frame}
+use Rattle.llb_asm.specs.declared.open_op.Frame.{Frame}
 use Rattle.llb_asm.specs.ItemLines.{Line, kept}
 use Rattle.llb_asm.specs.TextGrammar.{Items, records_of, IsWhole, at_hand, outermost, item_at, is_within, labels_of, closing, IsRefusedIn}
 use Rattle.llb_asm.specs.TextGrammar.{Entries, none, raw, op, open_op, text_of, AreClosed, AreEntries, begun_in, entry_in, IsRefused, SpellsEntries, FaultAt}

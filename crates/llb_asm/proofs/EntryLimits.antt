@@ -1,7 +1,7 @@
 -- What is taken as an entry is within the limits.
 use Rattle.std.proofs.Common.{◌≡◌, ℕ, Bool, true, false, List, length, Option, Some, None, Result, Ok, Err, refl, sym, ap, ◌∙◌}
 use Rattle.std.specs.Prelude.{nat_lt, ◌&&◌, if◌then◌else◌}
-use Rattle.llb_wire.specs.Answer.{◌>>=◌}
+use Rattle.llb_wire.specs.CallResults.{◌>>=◌}
 use Rattle.llb_ops.specs.Limits.{entries_limit}
 use Rattle.llb_ops.specs.Messages.{op_of}
 use Rattle.llb_asm.specs.declared.fault.Rule.TheVariants.{OverLimit}

@@ -5,7 +5,7 @@ use Rattle.std.specs.Prelude.{◌==◌, ◌&&◌, nat_lt, nat_le, is_none, find,
 use Rattle.std.specs.List.{AllByRecursion, list_all}
 use Rattle.std.proofs.lemmas.Bool.{and_parts, ltb-true, leb-true}
 use Rattle.std.proofs.lemmas.List.{drop_at}
-use Rattle.llb_wire.specs.Answer.{◌>>=◌}
+use Rattle.llb_wire.specs.CallResults.{◌>>=◌}
 use Rattle.llb_wire.proofs.RuleComposition.{bind_ok}
 use Rattle.llb_wire.specs.declared.fault.WireFault.{WireFault}
 use Rattle.llb_wire.specs.declared.field.Wire.TheVariants as wire
@@ -16,7 +16,7 @@ use Rattle.llb_wire.specs.Records.{Record, IsRecord, record_of, placed, written_
 use Rattle.llb_wire.proofs.SpelledRecords.{record_read, record_kept, written_is_record}
 use Rattle.llb_ops.specs.declared.fault.OpFault.{OpFault}
 use Rattle.llb_ops.specs.declared.fault.OpFault.TheVariants.{WrongWireType, NotUtf8}
-use Rattle.llb_ops.specs.declared.shape.Form.{Form}
+use Rattle.llb_ops.specs.declared.payloads_and_limits.Form.{Form}
 use Rattle.llb_ops.specs.declared.table.MessageName.{MessageName}
 use Rattle.llb_ops.specs.declared.table.MessageName.TheVariants as message
 use Rattle.llb_ops.specs.Table.{Row, rows_of, by_number, row_numbered, form_of_kind, shape_of}

@@ -9,7 +9,7 @@ use Rattle.llb_wire.specs.declared.field.Wire.TheVariants as wire
 use Rattle.llb_ops.specs.Writing.{set_bytes, each_field}
 use Rattle.llb_ops.specs.Definition.{definition_bytes}
 use Rattle.llb_ops.specs.Limits.{entry_limit}
-use Rattle.llb_asm.specs.declared.open.Frame.{Frame}
+use Rattle.llb_asm.specs.declared.open_op.Frame.{Frame}
 use Rattle.llb_asm.specs.TextGrammar.{record_length, is_within}
 use Rattle.llb_asm.specs.LineReader.{room_in}
 

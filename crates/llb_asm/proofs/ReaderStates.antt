@@ -4,14 +4,14 @@ use Rattle.std.specs.Str.{is_utf8}
 use Rattle.std.proofs.Common.{◌≡◌, ◌≢◌, refl, sym, ap, subst, ◌∙◌, ℕ, Bool, true, false, if◌then◌else◌, List, [], ◌∷◌, ◌++◌, append_assoc, append-nil}
 use Rattle.std.proofs.Common.{None, Result, Ok, Err, ◌⊎◌, inl, inr}
 use Rattle.llb_wire.specs.Hashing.{same_text}
-use Rattle.llb_wire.specs.Answer.{◌>>=◌}
+use Rattle.llb_wire.specs.CallResults.{◌>>=◌}
 use Rattle.llb_ops.specs.Writing.{set_bytes}
 use Rattle.llb_asm.specs.declared.fault.Rule.TheVariants.{Syntax}
 use Rattle.llb_asm.specs.declared.line.Refusal.{Refusal}
 use Rattle.llb_asm.specs.declared.line.Refusal.TheVariants.{Breaks}
 use Rattle.llb_asm.specs.declared.line.Here.{Here}
 use Rattle.llb_asm.specs.declared.line.Item.{Item}
-use Rattle.llb_asm.specs.declared.open.Frame.{Frame}
+use Rattle.llb_asm.specs.declared.open_op.Frame.{Frame}
 use Rattle.llb_wire.specs.TextComparison.{is_text}
 use Rattle.llb_asm.specs.EntryLine.{parted, parted_at, inside, line_in}
 use Rattle.llb_asm.specs.TextGrammar.{Hand, Items, done, single, nested, unclosed, records_of, IsWhole, AreItems, at_hand, item_at, is_within, labels_of}

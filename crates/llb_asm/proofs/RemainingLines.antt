@@ -10,7 +10,7 @@ use Rattle.llb_asm.specs.ItemLines.{Line, stripped, is_dropped, numbered, kept}
 use Rattle.std.specs.Prelude.{is_some, option_map}
 use Rattle.llb_asm.specs.declared.fault.Rule.TheVariants.{Unclosed}
 use Rattle.llb_asm.specs.declared.line.Refusal.TheVariants.{Breaks, UnknownLabel}
-use Rattle.llb_asm.specs.declared.open.Open.{Open}
+use Rattle.llb_asm.specs.declared.open_op.Open.{Open}
 use Rattle.llb_asm.specs.LineReader.{Progress, open_op_of, step_of, run_from, finish, fault_at, GivesEntries}
 
 abbrev pub pieces : List ℕ → List (List ℕ)

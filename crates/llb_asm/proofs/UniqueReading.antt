@@ -1,6 +1,6 @@
 -- A text has one result at most: entries, or a refusal, are what it is read as.
 use Rattle.std.proofs.Common.{◌≡◌, refl, sym, ap, ◌∙◌, ℕ, List, [], ◌∷◌, ◌++◌, map, Result, Ok, Err, append_assoc, append-nil, inl, inr}
-use Rattle.llb_wire.specs.Answer.{◌>>=◌}
+use Rattle.llb_wire.specs.CallResults.{◌>>=◌}
 use Rattle.llb_wire.proofs.RuleComposition.{bind_ok}
 use Rattle.llb_ops.specs.Writing.{set_bytes}
 use Rattle.llb_asm.specs.declared.fault.Rule.TheVariants.{Unclosed}
@@ -11,7 +11,7 @@ use Rattle.llb_asm.specs.declared.line.Held.TheVariants.{Record, Opens}
 use Rattle.llb_asm.specs.declared.line.Item.{Item}
 use Rattle.llb_asm.specs.declared.entry.Begun.{Begun}
 use Rattle.llb_asm.specs.declared.entry.Begun.TheVariants.{Raw, Structured}
-use Rattle.llb_asm.specs.declared.open.Frame.{Frame}
+use Rattle.llb_asm.specs.declared.open_op.Frame.{Frame}
 use Rattle.llb_asm.specs.ItemLines.{Line, kept}
 use Rattle.llb_asm.specs.EntryLine.{inside}
 use Rattle.llb_asm.specs.TextGrammar.{Items, done, single, nested, unclosed, lines_of, records_of, item_at, item, is_within, labels_of, closing, IsRefusedIn}

@@ -1,6 +1,6 @@
 -- How the code reads lines, one after another, with the messages that are open. Only the code and its proofs use this file.
 use Rattle.std.specs.Prelude.{◌≡◌, ℕ, ◌+◌, Bool, List, [], ◌∷◌, ◌++◌, length, Option, Some, None, Result, Ok, Err, option_map, reverse, if◌then◌else◌}
-use Rattle.llb_wire.specs.Answer.{◌>>=◌}
+use Rattle.llb_wire.specs.CallResults.{◌>>=◌}
 use Rattle.llb_ops.specs.declared.table.MessageName.TheVariants as named
 use Rattle.llb_ops.specs.Writing.{set_bytes}
 use Rattle.llb_asm.specs.declared.fault.AsmFault.{AsmFault}
@@ -14,10 +14,10 @@ use Rattle.llb_asm.specs.declared.line.Held.TheVariants.{Record, Opens}
 use Rattle.llb_asm.specs.declared.line.Item.{Item}
 use Rattle.llb_asm.specs.declared.entry.Begun.{Begun}
 use Rattle.llb_asm.specs.declared.entry.Begun.TheVariants.{Raw, Structured}
-use Rattle.llb_asm.specs.declared.open.Frame.{Frame}
-use Rattle.llb_asm.specs.declared.open.Open.{Open}
-use Rattle.llb_asm.specs.declared.open.Closed.{Closed}
-use Rattle.llb_asm.specs.declared.open.Closed.TheVariants.{Whole, Still}
+use Rattle.llb_asm.specs.declared.open_op.Frame.{Frame}
+use Rattle.llb_asm.specs.declared.open_op.Open.{Open}
+use Rattle.llb_asm.specs.declared.open_op.Closed.{Closed}
+use Rattle.llb_asm.specs.declared.open_op.Closed.TheVariants.{Whole, Still}
 use Rattle.llb_wire.specs.TextComparison.{is_text}
 use Rattle.llb_asm.specs.ItemLines.{Line}
 use Rattle.llb_asm.specs.EntryLine.{inside}

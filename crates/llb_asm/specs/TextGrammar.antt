@@ -2,7 +2,7 @@
 -- refused. This file says nothing of the code that reads the lines.
 use Rattle.std.specs.Prelude.{◌≡◌, ◌≢◌, ◌≤◌, ℕ, ◌+◌, ◌&&◌, ◌⊎◌, nat_lt, nat_le, Bool, if◌then◌else◌, List, [], ◌∷◌, ◌++◌, length, map, codes, Option}
 use Rattle.std.specs.Prelude.{Some, None, Result, Ok, Err}
-use Rattle.llb_wire.specs.Answer.{◌>>=◌}
+use Rattle.llb_wire.specs.CallResults.{◌>>=◌}
 use Rattle.llb_wire.specs.Digest.{digest_text}
 use Rattle.llb_wire.specs.Spelling.{varint_text, tag_text}
 use Rattle.llb_wire.specs.declared.field.Wire.TheVariants as wire

@@ -6,12 +6,12 @@ ghost use Rattle.llb_asm.specs.TextGrammar.{Assembles};
 ghost use Rattle.llb_asm.specs.LineReader.{progresses, progress_of, open_op_of, step_of, step_in, closed_on, run_from, between, fault_at, GivesEntries};
 ghost use Rattle.llb_asm.specs.LineReader.{reached};
 
-use crate::earlier::Earlier;
+use crate::complete_entries::Earlier;
 use crate::entry::{Begun, begun_in, entry_in};
 use crate::fault::{AsmFault, Rule};
 use crate::line::Refusal;
 use crate::lines::{is_dropped, stripped};
-use crate::open::{Closed, Open};
+use crate::open_op::{Closed, Open};
 use llb_ops::Entries;
 use llb_wire::Memory;
 use std::alloc::Global;

@@ -6,7 +6,7 @@ ghost use Rattle.llb_ops.specs.Messages.{op_of};
 ghost use Rattle.llb_ops.specs.Writing.{op_bytes};
 ghost use Rattle.llb_asm.specs.TextGrammar.{begun_by, begun_in, canonical_of, entry_in};
 
-use crate::earlier::Earlier;
+use crate::complete_entries::Earlier;
 use crate::fault::Rule;
 use crate::line::{Refusal, parted};
 use crate::values::bytes_spelled;

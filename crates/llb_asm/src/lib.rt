@@ -15,14 +15,14 @@
 #![tactic(auto)]
 
 mod assembling;
-mod earlier;
+mod complete_entries;
 mod entry;
 mod fault;
 mod labels;
 mod laws;
 mod line;
 mod lines;
-mod open;
+mod open_op;
 mod print;
 mod values;
 

@@ -14,7 +14,7 @@ use Rattle.llb_loader.specs.Mounts.{CacheKey}
 use Rattle.llb_tree.specs.Tree.{TreeMap}
 use Rattle.llb_model.specs.Program.{key_of, mount_of, with_need, needs_from, needs_of, shown_of, workspace_on}
 use Rattle.llb_execution.specs.ModelValues.{mounts_in, shown_in}
-use Rattle.llb_board.specs.Supplies.{needs_at}
+use Rattle.llb_board.specs.RunningWorkerSupplies.{needs_at}
 use Rattle.llb_model.proofs.Lists.{length_map}
 use Rattle.llb_model.proofs.VertexKinds.{kind_at}
 

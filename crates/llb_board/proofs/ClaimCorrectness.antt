@@ -13,7 +13,7 @@ use Rattle.llb_model.specs.Table.{Reply, claim_grant}
 use Rattle.llb_model.proofs.GrantedEvents.{Answer, claim_is}
 use Rattle.llb_events.specs.Faults.{claim_may_want}
 use Rattle.llb_events.specs.declared.refusal.ClaimFault.{ClaimFault}
-use Rattle.llb_model.specs.CacheBridge.{rows_after}
+use Rattle.llb_model.specs.TwoCacheModels.{rows_after}
 use Rattle.llb_board.specs.Vertices.{VerticesValue, with_status}
 use Rattle.llb_board.specs.Workers.{WorkersValue, Fits, state_in, reply_of}
 use Rattle.llb_board.specs.BoardValue.{BoardValue, seen, recorded}

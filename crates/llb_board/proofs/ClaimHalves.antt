@@ -3,41 +3,41 @@ use Rattle.std.proofs.Common.{◌≡◌, ◌≢◌, ℕ, ◌<◌, List, map, len
 use Rattle.std.specs.Prelude.{true, Result, Ok, Err, AllPairs, IfOk, IfErr, option_map, slice_get, slice_set}
 use Rattle.std.proofs.lemmas.Option.{slice_get_within}
 use Rattle.llb_cache.specs.declared.key.Key.{Key}
-use Rattle.llb_cache.specs.declared.need.Need as cache_need
+use Rattle.llb_cache.specs.declared.lease_needs.Need as cache_need
 use Rattle.llb_cache.specs.Caches.{CachesValue, Leases, leases, AreApart, AreThere}
 use Rattle.llb_loader.specs.declared.graph.Vertex.{Vertex}
 use Rattle.llb_loader.specs.Graph.{IsGraph}
 use Rattle.llb_model.specs.Caches.{Distinct, put_all}
-use Rattle.llb_model.specs.CacheBridge.{store_of, HoldsAs, places_taken, written, rows_after}
+use Rattle.llb_model.specs.TwoCacheModels.{store_of, HoldsAs, places_taken, written, rows_after}
 use Rattle.llb_model.specs.Outcome.{inputs_from}
 use Rattle.llb_model.specs.Program.{Build, Need, Start, key_of, needs_of, start_with}
 use Rattle.llb_model.specs.State.{Status, WorkerStatus, Idle, Runs, State, Running, Execution, ending_at, begin_at, start_from, held, held_key, places_for}
 use Rattle.llb_model.specs.State.{first_trees, places_at}
 use Rattle.llb_model.specs.Table.{Job, Reply, Claimed, claim_start, claim_at, claim_unless, claimed, claim_grant, or_not_ready, execution_on, job_on}
-use Rattle.llb_model.proofs.BridgeClaims.{makes_alike}
-use Rattle.llb_model.proofs.BridgeLeases.{leased_holds_as}
+use Rattle.llb_model.proofs.TwoModelsClaims.{makes_alike}
+use Rattle.llb_model.proofs.TwoModelsLeases.{leased_holds_as}
 use Rattle.llb_model.proofs.Lists.{get_set_same, length_map}
 use Rattle.llb_model.proofs.DistinctCacheKeys.{graph_distinct}
 use Rattle.llb_events.specs.Faults.{GivesClaim, claim_memory, claim_may_want}
 use Rattle.llb_events.specs.declared.refusal.ClaimFault.{ClaimFault}
-use Rattle.llb_board.specs.Needs.{first_held_key, unless_held}
+use Rattle.llb_board.specs.CacheNeeds.{first_held_key, unless_held}
 use Rattle.llb_board.specs.OptionalLeases.{lease_if}
-use Rattle.llb_board.specs.Supplies.{supplies_of, supplies_for}
+use Rattle.llb_board.specs.RunningWorkerSupplies.{supplies_of, supplies_for}
 use Rattle.llb_board.specs.WorkerRules.{Begun, begun, begun_at}
 use Rattle.llb_board.specs.Vertices.{VerticesValue, with_status}
 use Rattle.llb_board.specs.WorkerModelValues.{at_of, leased_by, execution_of}
 use Rattle.llb_board.specs.Workers.{WorkersValue, BegunValue, IsBegunAt, IsBegunOn, Fits, state_in, claim_in, reply_of, rule_of}
-use Rattle.llb_board.specs.declared.workers.seat.Seat.{Seat}
-use Rattle.llb_board.specs.declared.workers.seat.Seat.TheVariants as seat
-use Rattle.llb_board.specs.declared.workers.seat.Execution as own
+use Rattle.llb_board.specs.declared.workers.running_workers.Seat.{Seat}
+use Rattle.llb_board.specs.declared.workers.running_workers.Seat.TheVariants as seat
+use Rattle.llb_board.specs.declared.workers.running_workers.Execution as own
 use Rattle.llb_board.proofs.GrantsAndRefusals.{CanClaim, Leased, Granted, granted_of, leased_as_held, held_is_fault, open_is, places_alike, begun_is}
 use Rattle.llb_board.proofs.GrantsAndRefusals.{needs_asked}
-use Rattle.llb_board.proofs.SeatsAndLeases.{Crew, crew_set}
+use Rattle.llb_board.proofs.RunningWorkersAndLeases.{Crew, crew_set}
 use Rattle.llb_board.proofs.SuppliesAtStartAndEnd.{leased_claimed, made_for, supplies_claimed}
 use Rattle.llb_board.proofs.Lists.{map_set}
 use Rattle.llb_board.proofs.LeaseCounts.{few_leases}
 use Rattle.llb_board.proofs.NeedsByMount.{asked_differ}
-use Rattle.llb_model.proofs.BridgeRowWrites.{written_made}
+use Rattle.llb_model.proofs.TwoModelsRowWrites.{written_made}
 use Rattle.llb_board.proofs.TableStepOfWorker.{seen_of}
 use Rattle.llb_model.proofs.ConstructorEqualities.{runs_inside}
 

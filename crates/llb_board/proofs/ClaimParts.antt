@@ -2,7 +2,7 @@
 use Rattle.std.proofs.Common.{◌≡◌, ℕ, ◌<◌, ◌^◌, List, length, map, Option, Some, None, sym, ap, subst, ◌∙◌}
 use Rattle.std.specs.Prelude.{Ok}
 use Rattle.std.specs.List.{All}
-use Rattle.llb_cache.specs.declared.need.Need as cache_need
+use Rattle.llb_cache.specs.declared.lease_needs.Need as cache_need
 use Rattle.llb_cache.specs.Caches.{CachesValue}
 use Rattle.llb_loader.specs.Rules.{kind_mounts}
 use Rattle.llb_loader.specs.declared.graph.Vertex.{Vertex}
@@ -10,13 +10,13 @@ use Rattle.llb_tree.specs.Tree.{TreeMap}
 use Rattle.llb_model.specs.Caches.{Instance, Distinct}
 use Rattle.llb_model.specs.Program.{Build, Workspace, Need, key_of, mount_of, needs_of, program_of, workspace_on}
 use Rattle.llb_model.specs.Table.{Claimed, or_not_ready}
-use Rattle.llb_board.specs.declared.workers.needs.Wanted.{Wanted}
-use Rattle.llb_board.specs.Needs.{Taking, taken_by, taken_with, IsFound, need_of, first_tree}
+use Rattle.llb_board.specs.declared.workers.cache_needs.Wanted.{Wanted}
+use Rattle.llb_board.specs.CacheNeeds.{Taking, taken_by, taken_with, IsFound, need_of, first_tree}
 use Rattle.llb_execution.specs.Jobs.{IsWorkable}
 use Rattle.llb_execution.specs.ModelValues.{work_with, mounts_in, shown_in}
-use Rattle.llb_board.specs.Supplies.{Supplies, supplies_for}
+use Rattle.llb_board.specs.RunningWorkerSupplies.{Supplies, supplies_for}
 use Rattle.llb_board.specs.WorkerRules.{Begun, begun}
-use Rattle.llb_board.specs.VertexOutfits.{Outfitted, outfit_of}
+use Rattle.llb_board.specs.ClaimPreparation.{Outfitted, outfit_of}
 use Rattle.llb_model.proofs.Lists.{length_map}
 use Rattle.llb_board.proofs.CachesOfViews.{mounts_on, shown_on}
 use Rattle.llb_board.proofs.NeedsOfRemainingMounts.{keys_found, taken_as}

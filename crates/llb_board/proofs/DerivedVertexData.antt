@@ -11,7 +11,7 @@ use Rattle.std.proofs.lemmas.List.Elements.{All-weaker}
 use Rattle.llb_loader.specs.Graph.{IsGraph, LeadsBelow}
 use Rattle.llb_loader.specs.declared.graph.Edge.{Edge}
 use Rattle.llb_loader.specs.declared.graph.Vertex.{Vertex}
-use Rattle.llb_board.specs.Links.{Linked, IsLinked, AreLowered, AreRaised, Spreads, users_at, open_inputs, has_inputs}
+use Rattle.llb_board.specs.UsersAndOpenInputs.{Linked, IsLinked, AreLowered, AreRaised, Spreads, users_at, open_inputs, has_inputs}
 use Rattle.llb_board.proofs.OpenInputs.{linked_same, linked_lowered, linked_raised, counted_done}
 use Rattle.llb_model.specs.ListsFromEarlierItems.{by_number}
 use Rattle.llb_model.specs.Outcome.{Done, inputs_from}
@@ -24,8 +24,8 @@ use Rattle.llb_model.proofs.Outcomes.{HasOutputs, each_below, inputs_same, input
 use Rattle.llb_model.proofs.PlainVertexStates.{ending_settled}
 use Rattle.llb_model.proofs.ReadyVertices.{ready_waits}
 use Rattle.llb_board.specs.Vertices.{IsWhole, done_in, is_over, AreCounted, AreOver, TellsInputs, IsInStep, status_of}
-use Rattle.llb_board.specs.declared.vertices.stage.Stage.{Stage}
-use Rattle.llb_board.proofs.LinksOverStatuses.{test_set, others_done, done_here, below, linked_open, ready_so, spread_stops}
+use Rattle.llb_board.specs.declared.vertices.vertex_state.Stage.{Stage}
+use Rattle.llb_board.proofs.UsersOverStatuses.{test_set, others_done, done_here, below, linked_open, ready_so, spread_stops}
 use Rattle.llb_board.proofs.Lists.{map_set, get_map, set_back}
 use Rattle.llb_board.proofs.FailedAndDownstream.{marks_stay, unmarked}
 

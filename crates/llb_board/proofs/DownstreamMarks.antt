@@ -4,7 +4,7 @@ use Rattle.std.proofs.Common.{◌∙◌, arith, ◌⊎◌, inl, inr, drop-cons, 
 use Rattle.std.specs.Prelude.{Contains}
 use Rattle.std.proofs.lemmas.List.{get_or-set_same, length-set, append-nil, drop-append-le, drop_all}
 use Rattle.std.proofs.lemmas.List.Elements.{Contains-get_or, Contains-append_left, Contains-append_right, Contains-append_cases}
-use Rattle.llb_board.specs.Links.{is_marked, IsClosed, unmarked, Visits, Spreads}
+use Rattle.llb_board.specs.UsersAndOpenInputs.{is_marked, IsClosed, unmarked, Visits, Spreads}
 
 none : (x : ℕ) → Contains [] x → ⊥
 none x h = let lt = h.1 in omega (arith, lt)

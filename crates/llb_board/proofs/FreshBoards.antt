@@ -4,7 +4,7 @@ use Rattle.std.specs.Prelude.{Some, None, Bool, true, false, ◌&&◌, nat_le, r
 use Rattle.std.proofs.lemmas.Bool.{leb-true}
 use Rattle.std.proofs.lemmas.List.{length-replicate}
 use Rattle.llb_cache.specs.Caches.{CachesValue, Row}
-use Rattle.llb_wire.specs.Answer.{MemoryLast}
+use Rattle.llb_wire.specs.CallResults.{MemoryLast}
 use Rattle.llb_model.specs.Program.{Build}
 use Rattle.llb_model.specs.State as model
 use Rattle.llb_events.specs.declared.event.Event.{Event}
@@ -12,7 +12,7 @@ use Rattle.llb_model.specs.EventBounds.{most_events}
 use Rattle.llb_model.specs.Run.{run}
 use Rattle.llb_model.proofs.RecordRoomBalance.{IsRoomy, opening_roomy}
 use Rattle.llb_model.proofs.Cancels.{counts_open}
-use Rattle.llb_board.specs.Supplies.{supplies_for, needed}
+use Rattle.llb_board.specs.RunningWorkerSupplies.{supplies_for, needed}
 use Rattle.llb_board.specs.Vertices.{VerticesValue, all_waiting}
 use Rattle.llb_board.specs.Workers.{WorkersValue}
 use Rattle.llb_board.specs.BoardValue.{BoardValue, opening_with, opened, seen}

@@ -3,7 +3,7 @@ use Rattle.std.proofs.Common.{◌≡◌, ℕ, Bool, true, List, [], ◌∷◌, m
 use Rattle.std.specs.Prelude.{◌⊎◌, Result, Ok, Err, is_ok, slice_get, slice_set, if◌then◌else◌}
 use Rattle.std.specs.List.{find}
 use Rattle.llb_cache.specs.declared.key.Key.{Key}
-use Rattle.llb_cache.specs.declared.need.Need as cache_need
+use Rattle.llb_cache.specs.declared.lease_needs.Need as cache_need
 use Rattle.llb_cache.specs.declared.fault.LeaseFault.{LeaseFault}
 use Rattle.llb_cache.specs.Caches.{CachesValue, Leases, Taken, taken, place_for, free_lease, with_lease, made_all, is_locked_and_held, lease_by}
 use Rattle.llb_cache.specs.Caches.{AreApart, AreThere}
@@ -14,16 +14,16 @@ use Rattle.llb_model.specs.Program.{Build, Start, start_with, Need, needs_of}
 use Rattle.llb_model.specs.Outcome.{inputs_from}
 use Rattle.llb_model.specs.State.{Status, Waiting, Settled, Execution, WorkerStatus, Idle, Runs, State, ending_at, program_in}
 use Rattle.llb_model.specs.State.{start_from, ending_from, held, held_key, places_for}
-use Rattle.llb_model.specs.CacheBridge.{store_of, HoldsAs, asked, places_taken}
+use Rattle.llb_model.specs.TwoCacheModels.{store_of, HoldsAs, asked, places_taken}
 use Rattle.llb_model.specs.Table.{or_not_ready, claim_start, claim_unless, claimed, claim_grant}
 use Rattle.llb_model.proofs.Lists.{inside}
 use Rattle.llb_model.proofs.GrantedEvents.{Answer, ready_is}
-use Rattle.llb_model.proofs.BridgeClaims.{refuses_alike, takes_alike}
+use Rattle.llb_model.proofs.TwoModelsClaims.{refuses_alike, takes_alike}
 use Rattle.llb_board.specs.OptionalLeases.{some_lease, lease_if}
-use Rattle.llb_board.specs.Needs.{first_held_key, unless_held}
+use Rattle.llb_board.specs.CacheNeeds.{first_held_key, unless_held}
 use Rattle.llb_board.specs.WorkerRules.{Begun, begun_at, begun, Written}
 use Rattle.llb_board.specs.WorkerModelValues.{at_of}
-use Rattle.llb_board.specs.declared.workers.seat.Seat.{Seat}
+use Rattle.llb_board.specs.declared.workers.running_workers.Seat.{Seat}
 use Rattle.llb_events.specs.declared.refusal.ClaimFault.{ClaimFault}
 use Rattle.llb_events.specs.declared.refusal.ClaimFault.TheVariants as claim
 use Rattle.llb_events.specs.declared.refusal.StepFault.{StepFault}

@@ -5,11 +5,11 @@ use Rattle.std.proofs.lemmas.Option.{slice_get-map}
 use Rattle.llb_cache.specs.Caches.{Row, trees_of}
 use Rattle.llb_tree.specs.Tree.{TreeMap, empty_tree}
 use Rattle.llb_model.specs.Caches.{Instance, trees_at, tree_of}
-use Rattle.llb_model.specs.CacheBridge.{store_of}
-use Rattle.llb_model.proofs.BridgeContents.{shows_instances}
+use Rattle.llb_model.specs.TwoCacheModels.{store_of}
+use Rattle.llb_model.proofs.TwoModelsContents.{shows_instances}
 use Rattle.llb_model.proofs.Lists.{get_within, length_map}
 use Rattle.llb_board.proofs.Lists.{got_has}
-use Rattle.llb_model.proofs.BridgeOverwrites.{AreWithin}
+use Rattle.llb_model.proofs.TwoModelsOverwrites.{AreWithin}
 
 -- the tree of an instance that is there is the one that the rows have at its number
 pub instance_there : (rows : List Row) (ps : List Instance) (k : ℕ) (p : Instance) (o : Option TreeMap) → AreWithin rows ps → slice_get ps k ≡ Some p

@@ -6,7 +6,7 @@ use Rattle.std.proofs.lemmas.Option.{slice_get_within}
 use Rattle.llb_cache.specs.Caches.{Row}
 use Rattle.llb_loader.specs.declared.graph.Vertex.{Vertex}
 use Rattle.llb_model.specs.Program.{Build}
-use Rattle.llb_model.specs.CacheBridge.{store_of, written, rows_after}
+use Rattle.llb_model.specs.TwoCacheModels.{store_of, written, rows_after}
 use Rattle.llb_model.specs.State.{Status, Waiting, Running, WorkerStatus, Idle, State, opening, places_at}
 use Rattle.llb_events.specs.declared.event.Event.{Event}
 use Rattle.llb_model.specs.Table.{Reply, worker_of, after_end, table}

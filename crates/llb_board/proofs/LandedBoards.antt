@@ -16,7 +16,7 @@ use Rattle.llb_model.specs.WholeRunLaws.{HasDistinctNeeds}
 use Rattle.llb_model.specs.Program.{Build, Left, Need, key_of, needs_of, step_on}
 use Rattle.llb_model.specs.State.{State, Running, WorkerStatus, Idle, Runs, Execution, opening, program_in, is_finished, ending_from, held, places_for}
 use Rattle.llb_model.specs.State.{work_of, begin_at, places_at}
-use Rattle.llb_model.specs.CacheBridge.{store_of, put_each, written, rows_after}
+use Rattle.llb_model.specs.TwoCacheModels.{store_of, put_each, written, rows_after}
 use Rattle.llb_model.specs.Landing.{steps_by, further, AreThere, AreLeft, left_so_far, with_steps, after_steps}
 use Rattle.llb_events.specs.declared.refusal.SettleFault.TheVariants.{NotFinished}
 use Rattle.llb_events.specs.declared.event.Event.{Event}
@@ -27,8 +27,8 @@ use Rattle.llb_model.specs.EventBounds.{cancels_in}
 use Rattle.llb_model.proofs.Lists.{get_set_same, get_within, got_within, got_set, got_replicate, length_set}
 use Rattle.llb_model.proofs.StoreWrites.{hold_all, hold_trees, hold_length}
 use Rattle.llb_model.proofs.ProgramPrefixes.{go_keeps}
-use Rattle.llb_model.proofs.BridgeClaims.{writes_alike}
-use Rattle.llb_model.proofs.BridgeContents.{shows_instances}
+use Rattle.llb_model.proofs.TwoModelsClaims.{writes_alike}
+use Rattle.llb_model.proofs.TwoModelsContents.{shows_instances}
 use Rattle.llb_model.proofs.DistinctCacheKeys.{graph_distinct}
 use Rattle.llb_model.proofs.HeldInstances.{held_are_there}
 use Rattle.llb_model.proofs.GrantedEvents.{Answer, claim_places, claim_is, step_is, settle_is, cancel_is}
@@ -42,8 +42,8 @@ use Rattle.llb_execution.specs.Jobs.{OutcomeValue, IsOutcome, begun_on}
 use Rattle.llb_board.specs.Jobs.{job_now, IsRunOf}
 use Rattle.llb_board.specs.Vertices.{VerticesValue}
 use Rattle.llb_board.specs.Workers.{WorkersValue, Fits, state_in, RunsJob, steps_left}
-use Rattle.llb_model.proofs.BridgeOverwrites.{AreKeysApart, AreWithin, each_within, each_again, each_there}
-use Rattle.llb_model.proofs.BridgeRowWrites.{written_each}
+use Rattle.llb_model.proofs.TwoModelsOverwrites.{AreKeysApart, AreWithin, each_within, each_again, each_there}
+use Rattle.llb_model.proofs.TwoModelsRowWrites.{written_each}
 use Rattle.llb_board.specs.BoardValue.{BoardValue, Replays, seen, opening_with, kept_next, kept_along, after_event, recorded}
 use Rattle.llb_board.specs.BoardInvariant.{IsBoard}
 use Rattle.llb_board.specs.History.{Space}

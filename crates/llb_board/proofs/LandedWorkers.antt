@@ -6,7 +6,7 @@ use Rattle.std.proofs.lemmas.Option.{slice_get-map, slice_get_within}
 use Rattle.llb_cache.specs.Caches.{Row, Leases}
 use Rattle.llb_loader.specs.Graph.{IsGraph}
 use Rattle.llb_model.specs.Caches.{Instance, trees_at}
-use Rattle.llb_model.specs.CacheBridge.{store_of, HasLease, put_each}
+use Rattle.llb_model.specs.TwoCacheModels.{store_of, HasLease, put_each}
 use Rattle.llb_model.specs.Program.{Build, Left, key_of}
 use Rattle.llb_model.specs.State.{WorkerStatus, Idle, Runs, Execution, program_in, places_at}
 use Rattle.llb_model.specs.Table.{Job}
@@ -15,14 +15,14 @@ use Rattle.llb_model.proofs.Lists.{inside, length_map}
 use Rattle.llb_board.specs.OptionalLeases.{leased_places}
 use Rattle.llb_execution.specs.Jobs.{OutcomeValue, IsOutcome, begun_on}
 use Rattle.llb_board.specs.Jobs.{IsRunOf, job_now, seat_left}
-use Rattle.llb_board.specs.Supplies.{Supplies, supplies_of, needs_at}
+use Rattle.llb_board.specs.RunningWorkerSupplies.{Supplies, supplies_of, needs_at}
 use Rattle.llb_board.specs.Vertices.{VerticesValue}
 use Rattle.llb_board.specs.WorkerModelValues.{at_of, leased_by, execution_of}
 use Rattle.llb_board.specs.Workers.{WorkersValue, Fits, RunsJob, steps_left}
-use Rattle.llb_board.specs.declared.workers.seat.Seat.{Seat}
-use Rattle.llb_board.specs.declared.workers.seat.Seat.TheVariants as seat
-use Rattle.llb_board.specs.declared.workers.seat.Execution as own
-use Rattle.llb_board.proofs.SeatsAndLeases.{Crew, crew_set}
+use Rattle.llb_board.specs.declared.workers.running_workers.Seat.{Seat}
+use Rattle.llb_board.specs.declared.workers.running_workers.Seat.TheVariants as seat
+use Rattle.llb_board.specs.declared.workers.running_workers.Execution as own
+use Rattle.llb_board.proofs.RunningWorkersAndLeases.{Crew, crew_set}
 use Rattle.llb_board.proofs.SuppliesAtStartAndEnd.{made_enough, supplies_claimed}
 use Rattle.llb_board.proofs.Lists.{map_set, get_map}
 use Rattle.llb_board.proofs.CachesOfViews.{few_needs}

@@ -6,19 +6,19 @@ use Rattle.std.specs.List.{All}
 use Rattle.std.proofs.lemmas.List.Elements.{All-from_recursion}
 use Rattle.llb_cache.specs.Caches as cache
 use Rattle.llb_cache.specs.Caches.{Row, Leases, AreThere, trees_of, is_held}
-use Rattle.llb_cache.specs.LeaseGrowth.{CanLend}
+use Rattle.llb_cache.specs.LeaseAdditions.{CanLend}
 use Rattle.llb_model.specs.Caches.{Instance, IsExclusive, Has}
-use Rattle.llb_model.specs.CacheBridge.{AreLeased, HasLease}
+use Rattle.llb_model.specs.TwoCacheModels.{AreLeased, HasLease}
 use Rattle.llb_model.specs.State.{Execution, WorkerStatus, Idle, Runs, places_at}
 use Rattle.llb_model.proofs.GaplessInstances.{holder_of}
-use Rattle.llb_model.proofs.BridgeLeases.{leased_holds_as}
+use Rattle.llb_model.proofs.TwoModelsLeases.{leased_holds_as}
 use Rattle.llb_model.proofs.Lists.{get_set_same, get_set_other}
 use Rattle.llb_board.specs.OptionalLeases.{leased_places}
-use Rattle.llb_board.specs.DisplacedWorkers.{AreHeldThere, AreHeldOnce}
+use Rattle.llb_board.specs.WorkersKeptForUndo.{AreHeldThere, AreHeldOnce}
 use Rattle.llb_board.proofs.LeaseCounts.{few_leases}
-use Rattle.llb_model.proofs.BridgeOverwrites.{AreKeysApart, AreWithin}
+use Rattle.llb_model.proofs.TwoModelsOverwrites.{AreKeysApart, AreWithin}
 use Rattle.llb_board.proofs.MicroStepsOnLeases.{places_are}
-use Rattle.llb_model.proofs.BridgeUndo.{all_by, pairs_apart}
+use Rattle.llb_model.proofs.TwoModelsUndo.{all_by, pairs_apart}
 use Rattle.llb_model.proofs.ConstructorEqualities.{lease_inside}
 
 -- ---- the instances of a lease

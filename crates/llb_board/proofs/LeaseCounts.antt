@@ -8,7 +8,7 @@ use Rattle.llb_cache.specs.Caches as cache
 use Rattle.llb_cache.specs.Caches.{Leases, leases}
 use Rattle.llb_model.specs.Caches.{Instance}
 use Rattle.llb_model.specs.State.{WorkerStatus, Idle, Runs}
-use Rattle.llb_model.specs.CacheBridge.{AreLeased}
+use Rattle.llb_model.specs.TwoCacheModels.{AreLeased}
 use Rattle.llb_model.proofs.Lists.{got_set, got_replicate}
 
 -- ---- counts

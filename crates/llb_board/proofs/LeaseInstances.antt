@@ -8,14 +8,14 @@ use Rattle.llb_cache.specs.Caches.{CachesValue, Row, Leases, leases, tree_at, pl
 use Rattle.llb_tree.specs.Tree.{TreeMap, empty_tree}
 use Rattle.llb_model.specs.Caches.{Instance, tree_of}
 use Rattle.llb_model.specs.State.{WorkerStatus, Idle}
-use Rattle.llb_model.specs.CacheBridge.{store_of, AreLeased, put_each}
-use Rattle.llb_model.proofs.BridgeContents.{shows_instances}
-use Rattle.llb_model.proofs.BridgeLeases.{end_gives_back, end_without}
+use Rattle.llb_model.specs.TwoCacheModels.{store_of, AreLeased, put_each}
+use Rattle.llb_model.proofs.TwoModelsContents.{shows_instances}
+use Rattle.llb_model.proofs.TwoModelsLeases.{end_gives_back, end_without}
 use Rattle.llb_board.specs.OptionalLeases.{IsOutIf, given_back}
 use Rattle.llb_board.specs.WorkerModelValues.{at_of, leased_by}
-use Rattle.llb_board.specs.declared.workers.seat.Seat.{Seat}
-use Rattle.llb_board.specs.declared.workers.seat.Seat.TheVariants as seat
-use Rattle.llb_board.specs.declared.workers.seat.Execution as own
+use Rattle.llb_board.specs.declared.workers.running_workers.Seat.{Seat}
+use Rattle.llb_board.specs.declared.workers.running_workers.Seat.TheVariants as seat
+use Rattle.llb_board.specs.declared.workers.running_workers.Execution as own
 use Rattle.llb_board.proofs.Lists.{map_set, get_map}
 use Rattle.llb_board.proofs.LeaseCounts.{none_out}
 use Rattle.llb_model.proofs.ConstructorEqualities.{lease_inside, some_apart}

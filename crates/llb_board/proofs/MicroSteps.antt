@@ -3,7 +3,7 @@ use Rattle.std.proofs.Common.{◌≡◌, ℕ, ◌+◌, ◌<◌, ◌^◌, List, l
 use Rattle.std.specs.Prelude.{Result, Ok, is_ok, true, slice_get}
 use Rattle.std.specs.List.{All}
 use Rattle.std.proofs.lemmas.Option.{slice_get_within}
-use Rattle.llb_wire.specs.Answer.{MemoryLast}
+use Rattle.llb_wire.specs.CallResults.{MemoryLast}
 use Rattle.llb_cache.specs.Caches.{Row, trees_of}
 use Rattle.llb_loader.specs.Graph.{IsGraph}
 use Rattle.llb_loader.specs.declared.graph.Vertex.{Vertex}
@@ -11,15 +11,15 @@ use Rattle.llb_tree.specs.Tree.{TreeMap}
 use Rattle.llb_events.specs.declared.event.Stepped.TheVariants as did
 use Rattle.llb_model.specs.Table.{HasStepped, Reply, with_step, step_reply}
 use Rattle.llb_model.specs.Caches.{Instance, Has, Distinct, trees_at}
-use Rattle.llb_model.specs.CacheBridge.{store_of, put_each}
+use Rattle.llb_model.specs.TwoCacheModels.{store_of, put_each}
 use Rattle.llb_model.specs.Program.{Build, MicroStep, Left, key_of, mount_of, program_at, step_on}
 use Rattle.llb_model.specs.State.{Execution, program_in}
 use Rattle.llb_execution.specs.ModelValues.{work_with, mounts_in, shown_in, is_skipped}
 use Rattle.llb_events.specs.declared.refusal.StepFault.{StepFault}
 use Rattle.llb_events.specs.Faults.{step_memory}
-use Rattle.llb_board.specs.Supplies.{Supplies, supplies_of, supplies_for, mounts_at, needs_at}
+use Rattle.llb_board.specs.RunningWorkerSupplies.{Supplies, supplies_of, supplies_for, mounts_at, needs_at}
 use Rattle.llb_board.specs.WorkerRules.{worked_to, written_by, worked_in}
-use Rattle.llb_board.specs.declared.workers.seat.Execution as own
+use Rattle.llb_board.specs.declared.workers.running_workers.Execution as own
 use Rattle.llb_model.proofs.Lists.{length_map}
 use Rattle.llb_board.proofs.CachesOfViews.{few_needs}
 use Rattle.llb_board.proofs.SkippedCommands.{put_each_same, skip_to}

@@ -5,17 +5,17 @@ use Rattle.std.specs.Prelude.{Result, Ok, Err, OnOk, is_ok, is_some, nat_le, sli
 use Rattle.std.specs.List.{All}
 use Rattle.std.proofs.lemmas.Bool.{leb-true, le-leb}
 use Rattle.std.proofs.lemmas.List.Elements.{All-head, All-tail}
-use Rattle.llb_wire.specs.Answer.{MemoryLast}
+use Rattle.llb_wire.specs.CallResults.{MemoryLast}
 use Rattle.llb_cache.specs.Caches.{Row, Leases, places_of, trees_of, AreApart, AreThere}
 use Rattle.llb_tree.specs.Tree.{TreeMap}
 use Rattle.llb_model.specs.Caches.{Instance, Store, Has, Distinct, content, trees_at}
 use Rattle.llb_model.specs.Program.{Build, MicroStep, step_on}
 use Rattle.llb_model.specs.State.{Execution, WorkerStatus, Runs, program_in, is_finished, next_step, places_at}
-use Rattle.llb_model.specs.CacheBridge.{store_of, AreLeased, HasLease, put_each, written}
+use Rattle.llb_model.specs.TwoCacheModels.{store_of, AreLeased, HasLease, put_each, written}
 use Rattle.llb_model.specs.Table.{Reply, with_step, step_reply}
-use Rattle.llb_model.proofs.BridgeClaims.{writes_alike}
+use Rattle.llb_model.proofs.TwoModelsClaims.{writes_alike}
 use Rattle.llb_model.proofs.Lists.{get_set_same, length_map}
-use Rattle.llb_model.proofs.BridgeLeases.{step_keeps_lease}
+use Rattle.llb_model.proofs.TwoModelsLeases.{step_keeps_lease}
 use Rattle.llb_model.proofs.ProgramPrefixes.{step_keeps}
 use Rattle.llb_execution.specs.ModelValues.{work_with}
 use Rattle.llb_board.specs.OptionalLeases.{leased_places}
@@ -24,13 +24,13 @@ use Rattle.llb_board.specs.WorkerRules.{Written, worked_by, written_by, worked_i
 use Rattle.llb_board.specs.WorkerModelValues.{at_of, leased_by, execution_of}
 use Rattle.llb_events.specs.declared.event.Stepped.{Stepped}
 use Rattle.llb_events.specs.declared.refusal.StepFault.{StepFault}
-use Rattle.llb_board.specs.declared.workers.seat.Seat.{Seat}
-use Rattle.llb_board.specs.declared.workers.seat.Seat.TheVariants as seat
-use Rattle.llb_board.specs.declared.workers.seat.Execution as own
+use Rattle.llb_board.specs.declared.workers.running_workers.Seat.{Seat}
+use Rattle.llb_board.specs.declared.workers.running_workers.Seat.TheVariants as seat
+use Rattle.llb_board.specs.declared.workers.running_workers.Execution as own
 use Rattle.llb_board.proofs.Lists.{get_map, map_set, set_same}
 use Rattle.llb_board.proofs.GrantsAndRefusals.{granted_by}
-use Rattle.llb_model.proofs.BridgeRowWrites.{written_each}
-use Rattle.llb_model.proofs.BridgeOverwrites.{AreKeysApart}
+use Rattle.llb_model.proofs.TwoModelsRowWrites.{written_each}
+use Rattle.llb_model.proofs.TwoModelsOverwrites.{AreKeysApart}
 use Rattle.llb_model.proofs.ConstructorEqualities.{inside_ok, lease_inside, some_apart}
 
 -- ---- what is not finished has a micro-step

@@ -5,7 +5,7 @@ use Rattle.std.specs.Prelude.{Option, Some, None, option_map, slice_get, slice_i
 use Rattle.std.specs.List.{find, All, AllPairs}
 use Rattle.std.proofs.lemmas.Option.{get_or_from_slice_get}
 use Rattle.std.proofs.lemmas.List.Elements.{All-get_or}
-use Rattle.llb_cache.specs.declared.need.Need as cache_need
+use Rattle.llb_cache.specs.declared.lease_needs.Need as cache_need
 use Rattle.llb_cache.specs.Caches as cache
 use Rattle.llb_cache.specs.Caches.{Leases}
 use Rattle.llb_cache.proofs.ListMembership.{In, pairs_cons}
@@ -20,9 +20,9 @@ use Rattle.llb_loader.specs.Rules.{kind_mounts}
 use Rattle.llb_tree.specs.Tree.{TreeMap}
 use Rattle.llb_model.specs.Caches.{Has, Distinct}
 use Rattle.llb_model.specs.Program.{Need, key_of, mount_of, base_in, with_need, needs_from, needs_of}
-use Rattle.llb_model.specs.CacheBridge.{asked}
+use Rattle.llb_model.specs.TwoCacheModels.{asked}
 use Rattle.llb_model.proofs.Lists.{get_within, got_within}
-use Rattle.llb_board.specs.Needs.{HasEdges, is_locked_and_held, first_held_key}
+use Rattle.llb_board.specs.CacheNeeds.{HasEdges, is_locked_and_held, first_held_key}
 
 -- ---- the edges of a vertex
 

@@ -14,13 +14,13 @@ use Rattle.llb_loader.specs.Mounts.{CacheKey}
 use Rattle.llb_loader.specs.Rules.{kind_mounts}
 use Rattle.llb_tree.specs.Tree.{TreeMap}
 use Rattle.llb_model.specs.Caches.{Instance, content, place}
-use Rattle.llb_model.specs.CacheBridge.{store_of, asked, places_taken}
+use Rattle.llb_model.specs.TwoCacheModels.{store_of, asked, places_taken}
 use Rattle.llb_model.specs.Program.{Need, base_in, key_as, key_of, with_need, needs_from}
 use Rattle.llb_model.specs.State.{first_trees}
-use Rattle.llb_model.proofs.BridgeContents.{shows_instances}
-use Rattle.llb_board.specs.declared.workers.needs.Wanted.{Wanted}
-use Rattle.llb_board.specs.Needs.{is_locked_and_held, first_held_key, if_locked, IsFound, need_of, number_of, place_found, first_tree}
-use Rattle.llb_board.specs.Needs.{taken_by, taken_with}
+use Rattle.llb_model.proofs.TwoModelsContents.{shows_instances}
+use Rattle.llb_board.specs.declared.workers.cache_needs.Wanted.{Wanted}
+use Rattle.llb_board.specs.CacheNeeds.{is_locked_and_held, first_held_key, if_locked, IsFound, need_of, number_of, place_found, first_tree}
+use Rattle.llb_board.specs.CacheNeeds.{taken_by, taken_with}
 
 -- ---- the mounts that are left
 

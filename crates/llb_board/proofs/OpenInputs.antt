@@ -8,7 +8,8 @@ use Rattle.std.proofs.lemmas.List.Elements.{All-nil, All-cons, All-head, All-tai
 use Rattle.std.proofs.lemmas.Bool.{cases_eq, eq-eqb, ne_eqb, and_parts, and_from, and_right, or_right}
 use Rattle.llb_loader.specs.declared.graph.Edge.{Edge}
 use Rattle.llb_loader.specs.declared.graph.Vertex.{Vertex}
-use Rattle.llb_board.specs.Links.{leads, users_from, users_of, count_below, waits_for, open_inputs, Linked, IsLinked, users_at, times, AreLowered, AreRaised}
+use Rattle.llb_board.specs.UsersAndOpenInputs.{leads, users_from, users_of, count_below, waits_for, open_inputs, Linked, IsLinked, users_at, times}
+use Rattle.llb_board.specs.UsersAndOpenInputs.{AreLowered, AreRaised}
 
 -- a choice by a test that holds, or does not
 pub if_true : {A : Type 0} (b : Bool) (x y : A) → b ≡ true → (if b then x else y) ≡ x

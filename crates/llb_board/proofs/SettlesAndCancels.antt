@@ -12,7 +12,7 @@ use Rattle.llb_events.specs.declared.event.Event.{Event}
 use Rattle.llb_events.specs.declared.event.Event.TheVariants.{Settle, Cancel}
 use Rattle.llb_model.specs.Table.{settle_reply, settle_grant, cancel_grant, after_end}
 use Rattle.llb_board.specs.WorkerRules.{left_at, given_up_at}
-use Rattle.llb_model.specs.CacheBridge.{rows_after}
+use Rattle.llb_model.specs.TwoCacheModels.{rows_after}
 use Rattle.llb_board.specs.Vertices.{VerticesValue}
 use Rattle.llb_board.specs.Workers.{WorkersValue, Fits, state_in}
 use Rattle.llb_board.specs.BoardValue.{seen}

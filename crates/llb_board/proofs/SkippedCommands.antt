@@ -13,11 +13,11 @@ use Rattle.llb_events.specs.declared.event.Stepped.TheVariants as did
 use Rattle.llb_model.specs.Table.{HasStepped}
 use Rattle.llb_events.specs.declared.fault.VertexFault.{VertexFault}
 use Rattle.llb_model.specs.Caches.{Instance, Has, content, trees_at}
-use Rattle.llb_model.specs.CacheBridge.{store_of, put_each}
+use Rattle.llb_model.specs.TwoCacheModels.{store_of, put_each}
 use Rattle.llb_model.specs.Program.{MicroStep, ReadLocal, Act, LayInput, Run, Workspace, Left, last_of, is_run}
 use Rattle.llb_model.specs.State.{Execution}
 use Rattle.llb_model.specs.Table as table
-use Rattle.llb_model.proofs.BridgeContents.{shows_instances}
+use Rattle.llb_model.proofs.TwoModelsContents.{shows_instances}
 use Rattle.llb_model.proofs.Lists.{get_within}
 use Rattle.llb_execution.specs.ModelValues.{left_with, is_skipped}
 use Rattle.llb_execution.proofs.MicroStepResults.{skip_leaves}

@@ -4,8 +4,8 @@ use Rattle.std.specs.Prelude.{replicate}
 use Rattle.llb_model.specs.Outcome.{Done, Failed}
 use Rattle.llb_model.specs.State.{Status, Waiting, Running, Settled}
 use Rattle.llb_board.specs.Vertices.{status_of}
-use Rattle.llb_board.specs.declared.vertices.stage.Stage.{Stage}
-use Rattle.llb_board.specs.declared.vertices.stage.Stage.TheVariants as stage
+use Rattle.llb_board.specs.declared.vertices.vertex_state.Stage.{Stage}
+use Rattle.llb_board.specs.declared.vertices.vertex_state.Stage.TheVariants as stage
 
 abbrev stage_of : Status → Stage
 stage_of Waiting = stage.Waiting

@@ -6,17 +6,17 @@ use Rattle.llb_tree.specs.Tree.{empty_tree}
 use Rattle.llb_loader.specs.declared.graph.Vertex.{Vertex}
 use Rattle.llb_model.specs.Program.{Build, program_at}
 use Rattle.llb_model.specs.State.{Status, Settled, WorkerStatus, Idle, Runs, program_in, is_finished}
-use Rattle.llb_model.specs.CacheBridge.{AreLeased}
+use Rattle.llb_model.specs.TwoCacheModels.{AreLeased}
 use Rattle.llb_model.specs.Outcome.{ended}
 use Rattle.llb_model.proofs.Lists.{inside}
-use Rattle.llb_model.proofs.BridgeLeases.{claim_leases, claim_without}
+use Rattle.llb_model.proofs.TwoModelsLeases.{claim_leases, claim_without}
 use Rattle.llb_model.specs.Caches.{Instance}
 use Rattle.llb_board.specs.WorkerModelValues.{at_of, leased_by, execution_of}
 use Rattle.llb_board.specs.WorkerRules.{left_at}
-use Rattle.llb_board.specs.Supplies.{Supplies, supplies_of, supplies_for, ready_made, needed}
-use Rattle.llb_board.specs.declared.workers.seat.Seat.{Seat}
-use Rattle.llb_board.specs.declared.workers.seat.Seat.TheVariants as seat
-use Rattle.llb_board.specs.declared.workers.seat.Execution as own
+use Rattle.llb_board.specs.RunningWorkerSupplies.{Supplies, supplies_of, supplies_for, ready_made, needed}
+use Rattle.llb_board.specs.declared.workers.running_workers.Seat.{Seat}
+use Rattle.llb_board.specs.declared.workers.running_workers.Seat.TheVariants as seat
+use Rattle.llb_board.specs.declared.workers.running_workers.Execution as own
 use Rattle.llb_board.proofs.Lists.{map_set, get_map}
 use Rattle.llb_board.proofs.GrantsAndRefusals.{LeasedNew, left_if}
 

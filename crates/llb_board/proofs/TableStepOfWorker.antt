@@ -1,28 +1,28 @@
 -- The table's step, by the micro-step of one worker.
 use Rattle.std.proofs.Common.{◌≡◌, ℕ, ◌<◌, List, map, length, Option, Some, None, refl, sym, ap, subst, ◌∙◌}
 use Rattle.std.specs.Prelude.{Result, Ok, Err, OnOk, is_ok, slice_get, slice_set}
-use Rattle.llb_wire.specs.Answer.{MemoryLast}
+use Rattle.llb_wire.specs.CallResults.{MemoryLast}
 use Rattle.llb_cache.specs.Caches.{Row, Leases, trees_of, AreApart, AreThere}
 use Rattle.llb_model.specs.Table.{HasStepped}
 use Rattle.llb_model.specs.Caches.{Instance, Has, trees_at}
-use Rattle.llb_model.specs.CacheBridge.{store_of, put_each, written, rows_after}
+use Rattle.llb_model.specs.TwoCacheModels.{store_of, put_each, written, rows_after}
 use Rattle.llb_model.specs.Program.{Build, MicroStep, step_on}
 use Rattle.llb_model.specs.State.{Status, Execution, WorkerStatus, Runs, State, program_in, next_step}
 use Rattle.llb_model.specs.Table.{Reply, step_grant, stepped, step_with, with_step, step_reply}
-use Rattle.llb_model.proofs.BridgeClaims.{writes_alike}
+use Rattle.llb_model.proofs.TwoModelsClaims.{writes_alike}
 use Rattle.llb_execution.specs.ModelValues.{work_with}
 use Rattle.llb_events.specs.declared.event.Stepped.{Stepped}
 use Rattle.llb_events.specs.declared.refusal.StepFault.{StepFault}
-use Rattle.llb_board.specs.Supplies.{ready_made, supplies_of, supplies_for}
+use Rattle.llb_board.specs.RunningWorkerSupplies.{ready_made, supplies_of, supplies_for}
 use Rattle.llb_events.specs.Faults.{step_memory, GivesStep}
 use Rattle.llb_board.specs.WorkerRules.{Written, worked_by, written_by, worked_in}
 use Rattle.llb_board.specs.Vertices.{VerticesValue}
 use Rattle.llb_board.specs.WorkerModelValues.{at_of, execution_of}
 use Rattle.llb_board.specs.Workers.{WorkersValue, Fits, state_in, step_in}
-use Rattle.llb_board.specs.declared.workers.seat.Seat.{Seat}
-use Rattle.llb_board.specs.declared.workers.seat.Seat.TheVariants as seat
-use Rattle.llb_board.specs.declared.workers.seat.Execution as own
-use Rattle.llb_board.proofs.SeatsAndLeases.{Crew, crew_set}
+use Rattle.llb_board.specs.declared.workers.running_workers.Seat.{Seat}
+use Rattle.llb_board.specs.declared.workers.running_workers.Seat.TheVariants as seat
+use Rattle.llb_board.specs.declared.workers.running_workers.Execution as own
+use Rattle.llb_board.proofs.RunningWorkersAndLeases.{Crew, crew_set}
 use Rattle.llb_board.proofs.SuppliesAtStartAndEnd.{made_enough, supplies_claimed}
 use Rattle.llb_board.proofs.Lists.{get_map, map_set}
 use Rattle.llb_board.proofs.MicroStepsOnLeases.{holding, ok_through, rows_through, places_set, leased_stepped}

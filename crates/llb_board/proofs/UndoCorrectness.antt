@@ -12,7 +12,7 @@ use Rattle.llb_loader.specs.Graph.{IsGraph}
 use Rattle.llb_loader.specs.declared.graph.Vertex.{Vertex}
 use Rattle.llb_model.specs.Table.{cancel_reply, Reply, with_step, table}
 use Rattle.llb_model.specs.Caches.{Instance, Distinct, trees_at}
-use Rattle.llb_model.specs.CacheBridge.{store_of}
+use Rattle.llb_model.specs.TwoCacheModels.{store_of}
 use Rattle.llb_model.specs.WholeRunLaws.{HasDistinctNeeds}
 use Rattle.llb_model.specs.Program.{Build, key_of, program_at, step_on}
 use Rattle.llb_model.specs.EventBounds.{events_of, cancel_counts}
@@ -28,20 +28,20 @@ use Rattle.llb_model.proofs.RecordRoomBalance.{IsRoomy}
 use Rattle.llb_model.proofs.RunExtension.{run_more}
 use Rattle.llb_model.proofs.ExclusiveHolders.{held_once}
 use Rattle.llb_model.proofs.HeldInstances.{held_are_there}
-use Rattle.llb_board.specs.Supplies.{Supplies, needed, needs_at, supplies_for}
-use Rattle.llb_board.specs.DisplacedWorkers.{Back, Unclaim, Unstep, Resume, Displaced, workers_before, with_view_back, step_before, rows_before}
-use Rattle.llb_board.specs.DisplacedWorkers.{supplies_before}
-use Rattle.llb_board.specs.DisplacedWorkers.{change_in, IsBehind, CanPutBack}
+use Rattle.llb_board.specs.RunningWorkerSupplies.{Supplies, needed, needs_at, supplies_for}
+use Rattle.llb_board.specs.WorkersKeptForUndo.{Back, Unclaim, Unstep, Resume, Displaced, workers_before, with_view_back, step_before, rows_before}
+use Rattle.llb_board.specs.WorkersKeptForUndo.{supplies_before}
+use Rattle.llb_board.specs.WorkersKeptForUndo.{change_in, IsBehind, CanPutBack}
 use Rattle.llb_board.specs.Vertices.{VerticesValue, IsWhole}
 use Rattle.llb_board.specs.Workers.{WorkersValue}
 use Rattle.llb_board.specs.declared.workers.undoing.End.TheVariants as end
 use Rattle.llb_board.proofs.Lists.{map_set, set_same, get_map}
 use Rattle.llb_board.proofs.CachesOfViews.{few_needs}
-use Rattle.llb_model.proofs.BridgeUndo.{within_held}
+use Rattle.llb_model.proofs.TwoModelsUndo.{within_held}
 use Rattle.llb_board.specs.BoardValue.{BoardValue, Replays, opening_with, seen}
 use Rattle.llb_board.specs.BoardInvariant.{IsBoard}
 use Rattle.llb_board.specs.History.{Space, front, last_of, space_back}
-use Rattle.llb_board.specs.WalkAndUndo.{statuses_before, undone, event_before, CanUndo}
+use Rattle.llb_board.specs.UndoableEvents.{statuses_before, undone, event_before, CanUndo}
 use Rattle.llb_board.proofs.InvariantPreservation.{waits_whole, runs_whole, has_vertex}
 use Rattle.llb_board.proofs.LastRecordedEvent.{last_is}
 use Rattle.llb_board.proofs.RecordedRunStates.{consistent, reached}

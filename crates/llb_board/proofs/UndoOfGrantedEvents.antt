@@ -4,7 +4,7 @@ use Rattle.std.proofs.Common.{subst, unwrap_or, ◌∙◌, arith}
 use Rattle.std.specs.Prelude.{Result, Ok, Err, slice_get, slice_set, nat_le, if◌then◌else◌}
 use Rattle.llb_cache.specs.Caches.{Row}
 use Rattle.llb_cache.specs.declared.key.Key.{Key}
-use Rattle.llb_cache.specs.LeaseGrowth.{growth_at, unmade}
+use Rattle.llb_cache.specs.LeaseAdditions.{growth_at, unmade}
 use Rattle.llb_loader.specs.Graph.{IsGraph}
 use Rattle.llb_tree.specs.Tree.{empty_tree}
 use Rattle.llb_execution.specs.SavedWorkspaces.{saved_of}
@@ -18,7 +18,7 @@ use Rattle.llb_model.specs.State.{held, places_for, begin_at, first_trees, place
 use Rattle.llb_events.specs.declared.event.Event.{Event}
 use Rattle.llb_events.specs.declared.event.Event.TheVariants.{Claim, Step, Settle, Cancel}
 use Rattle.llb_model.specs.Table.{worker_of, with_step, step_by, after_end, table}
-use Rattle.llb_model.specs.CacheBridge.{store_of, put_each, written, rows_after}
+use Rattle.llb_model.specs.TwoCacheModels.{store_of, put_each, written, rows_after}
 use Rattle.llb_model.proofs.ClaimedInstances.{places_distinct, places_length, first_length}
 use Rattle.llb_model.proofs.GrantedEvents.{Answer, IsStep, claim_places, claim_is, step_is, settle_is, cancel_is}
 use Rattle.llb_model.proofs.Lists.{get_set_same, length_set, length_map}
@@ -30,20 +30,20 @@ use Rattle.llb_board.specs.Faults.{faulted}
 use Rattle.llb_board.specs.declared.fault.WalkFault.{WalkFault}
 use Rattle.llb_board.specs.declared.fault.WalkFault.TheVariants as walk
 use Rattle.llb_board.specs.OptionalLeases.{lent_of}
-use Rattle.llb_board.specs.Supplies.{needs_at}
-use Rattle.llb_board.specs.DisplacedWorkers.{Back, Unclaim, Unstep, Resume, Displaced, walk_in, end_of, workers_before, with_view_back, step_before}
-use Rattle.llb_board.specs.DisplacedWorkers.{rows_before}
-use Rattle.llb_board.specs.DisplacedWorkers.{taken_at, MarksClaim, MarksStep, MarksEnd, MarksIn}
+use Rattle.llb_board.specs.RunningWorkerSupplies.{needs_at}
+use Rattle.llb_board.specs.WorkersKeptForUndo.{Back, Unclaim, Unstep, Resume, Displaced, walk_in, end_of, workers_before, with_view_back, step_before}
+use Rattle.llb_board.specs.WorkersKeptForUndo.{rows_before}
+use Rattle.llb_board.specs.WorkersKeptForUndo.{taken_at, MarksClaim, MarksStep, MarksEnd, MarksIn}
 use Rattle.llb_board.specs.Vertices.{VerticesValue}
 use Rattle.llb_board.specs.Workers.{WorkersValue}
 use Rattle.llb_board.specs.declared.workers.undoing.End.{End}
 use Rattle.llb_board.specs.declared.workers.undoing.End.TheVariants as end
 use Rattle.llb_board.proofs.Lists.{set_back, front_again}
-use Rattle.llb_model.proofs.BridgeOverwrites.{AreKeysApart}
-use Rattle.llb_model.proofs.BridgeUndo.{keys_apart, keys_for, unwritten, unstepped}
+use Rattle.llb_model.proofs.TwoModelsOverwrites.{AreKeysApart}
+use Rattle.llb_model.proofs.TwoModelsUndo.{keys_apart, keys_for, unwritten, unstepped}
 use Rattle.llb_board.specs.BoardValue.{BoardValue, Replays, seen, after_event, recorded}
-use Rattle.llb_board.specs.WalkAndUndo.{told_as, walk_of, statuses_before, undone, event_before, IsLast, StandsBehind, CanUndo}
-use Rattle.llb_board.specs.declared.board.walk.Reply as replied
+use Rattle.llb_board.specs.UndoableEvents.{told_as, walk_of, statuses_before, undone, event_before, IsLast, StandsBehind, CanUndo}
+use Rattle.llb_board.specs.declared.board.undoable_event.Reply as replied
 use Rattle.llb_board.proofs.RulesGrantedByTable.{claim_done, step_done, settle_done, cancel_done}
 use Rattle.llb_board.proofs.RecordedRunStates.{consistent, reached}
 use Rattle.llb_board.proofs.UndoCorrectness.{distinct_needs}

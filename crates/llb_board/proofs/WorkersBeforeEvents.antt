@@ -1,30 +1,30 @@
 -- What is kept of workers before an event.
 use Rattle.std.proofs.Common.{◌≡◌, ℕ, ◌+◌, List, map, length, Option, Some, refl, sym, ap, ◌∙◌}
 use Rattle.std.specs.Prelude.{slice_get}
-use Rattle.llb_cache.specs.declared.growth.Growth.{Growth}
+use Rattle.llb_cache.specs.declared.lease_additions.Growth.{Growth}
 use Rattle.llb_cache.specs.Caches.{CachesValue, Row, AreApart}
-use Rattle.llb_cache.specs.LeaseGrowth.{LentValue}
+use Rattle.llb_cache.specs.LeaseAdditions.{LentValue}
 use Rattle.llb_tree.specs.Tree.{TreeMap}
 use Rattle.llb_execution.specs.SavedWorkspaces.{Saved, saved_of}
 use Rattle.llb_model.specs.Caches.{trees_at}
-use Rattle.llb_model.specs.CacheBridge.{store_of, growth_for}
-use Rattle.llb_model.proofs.BridgeLeases.{leased_holds_as}
+use Rattle.llb_model.specs.TwoCacheModels.{store_of, growth_for}
+use Rattle.llb_model.proofs.TwoModelsLeases.{leased_holds_as}
 use Rattle.llb_board.specs.OptionalLeases.{lent_of}
-use Rattle.llb_board.specs.Supplies.{Supplies, needs_at}
-use Rattle.llb_board.specs.DisplacedWorkers.{Unclaim, Unstep, Resume, MarksClaim, MarksStep, MarksEnd}
+use Rattle.llb_board.specs.RunningWorkerSupplies.{Supplies, needs_at}
+use Rattle.llb_board.specs.WorkersKeptForUndo.{Unclaim, Unstep, Resume, MarksClaim, MarksStep, MarksEnd}
 use Rattle.llb_board.specs.WorkerUndo.{left_in}
 use Rattle.llb_board.specs.Vertices.{VerticesValue}
 use Rattle.llb_board.specs.WorkerModelValues.{at_of, leased_by, execution_of}
 use Rattle.llb_board.specs.Workers.{Fits}
-use Rattle.llb_board.specs.declared.workers.seat.Seat.{Seat}
-use Rattle.llb_board.specs.declared.workers.seat.Seat.TheVariants as seat
-use Rattle.llb_board.specs.declared.workers.seat.Execution as own
+use Rattle.llb_board.specs.declared.workers.running_workers.Seat.{Seat}
+use Rattle.llb_board.specs.declared.workers.running_workers.Seat.TheVariants as seat
+use Rattle.llb_board.specs.declared.workers.running_workers.Execution as own
 use Rattle.llb_board.specs.declared.workers.undoing.End.{End}
-use Rattle.llb_board.proofs.SeatsAndLeases.{Crew}
+use Rattle.llb_board.proofs.RunningWorkersAndLeases.{Crew}
 use Rattle.llb_board.proofs.SuppliesAtStartAndEnd.{made_enough}
 use Rattle.llb_board.proofs.Lists.{get_map}
 use Rattle.llb_model.proofs.Lists.{length_map}
-use Rattle.llb_model.proofs.BridgeUndo.{growths_are}
+use Rattle.llb_model.proofs.TwoModelsUndo.{growths_are}
 use Rattle.llb_board.proofs.TableStepOfWorker.{seen_of}
 
 -- before a claim, what its lease will add is all that it can displace of the caches

@@ -2,7 +2,7 @@
 use Rattle.std.specs.Prelude.{◌≡◌, ℕ, List, [], ◌∷◌, ◌++◌, length, fold, option_map, Option, Some, None, Result, Ok, Err, unwrap_or}
 use Rattle.llb_model.specs.Program.{Build}
 use Rattle.llb_cache.specs.Caches.{Row}
-use Rattle.llb_model.specs.CacheBridge.{store_of, rows_after}
+use Rattle.llb_model.specs.TwoCacheModels.{store_of, rows_after}
 use Rattle.llb_model.specs.State.{State, Opening, opening}
 use Rattle.llb_events.specs.declared.event.Event.{Event}
 use Rattle.llb_model.specs.Table.{Reply, worker_of, table}

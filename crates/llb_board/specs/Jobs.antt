@@ -9,8 +9,8 @@ use Rattle.llb_model.specs.Program.{Build, Workspace}
 use Rattle.llb_model.specs.State.{Execution, program_in}
 use Rattle.llb_model.specs.Table.{Job}
 use Rattle.llb_execution.specs.ModelValues.{work_with}
-use Rattle.llb_board.specs.declared.workers.seat.Seat.{Seat}
-use Rattle.llb_board.specs.declared.workers.seat.Seat.TheVariants as seat
+use Rattle.llb_board.specs.declared.workers.running_workers.Seat.{Seat}
+use Rattle.llb_board.specs.declared.workers.running_workers.Seat.TheVariants as seat
 
 -- whether several leases can hold one instance of a cache of this mode at once
 abbrev pub is_shared : Mode → Bool

@@ -1,6 +1,6 @@
 -- The result of opening a board: the board; or the first cause of a refusal, with the graph, the local trees and the caches that the call was made with.
 use Rattle.std.specs.Prelude.{ℕ, nat_le, Bool, true, false, ◌&&◌, List, Option, Some, None, Result, Ok, Err, if◌then◌else◌}
-use Rattle.llb_wire.specs.Answer as answer
+use Rattle.llb_wire.specs.CallResults as answer
 use Rattle.llb_cache.specs.Caches.{CachesValue}
 use Rattle.llb_model.specs.Program.{Build}
 use Rattle.llb_loader.specs.FirstMissingTree.{missing_local}

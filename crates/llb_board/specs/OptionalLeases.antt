@@ -2,10 +2,10 @@
 use Rattle.std.specs.Prelude.{ℕ, List, [], ◌∷◌, Option, Some, None, slice_set, Result, Ok, Err}
 use Rattle.llb_cache.specs.Caches as cache
 use Rattle.llb_cache.specs.Caches.{Leases}
-use Rattle.llb_cache.specs.declared.growth.Growth.{Growth}
-use Rattle.llb_cache.specs.LeaseGrowth.{LentValue, unmade, lent_again}
-use Rattle.llb_cache.specs.declared.need.Instance.{Instance}
-use Rattle.llb_cache.specs.declared.need.Need as cache_need
+use Rattle.llb_cache.specs.declared.lease_additions.Growth.{Growth}
+use Rattle.llb_cache.specs.LeaseAdditions.{LentValue, unmade, lent_again}
+use Rattle.llb_cache.specs.declared.lease_needs.Instance.{Instance}
+use Rattle.llb_cache.specs.declared.lease_needs.Need as cache_need
 use Rattle.llb_cache.specs.declared.fault.LeaseFault.{LeaseFault}
 
 -- the instances of a lease; none if there is no lease

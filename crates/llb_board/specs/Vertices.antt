@@ -6,9 +6,9 @@ use Rattle.llb_model.specs.Program.{Build}
 use Rattle.llb_model.specs.Outcome.{Done, Failed, inputs_from}
 use Rattle.llb_model.specs.State.{Status, Waiting, Running, Settled, ending_at, is_done, is_ready, is_blocked, stopped}
 use Rattle.llb_model.specs.Run.{is_settled}
-use Rattle.llb_board.specs.Links.{Linked, IsLinked, AreLowered, AreRaised, has_inputs}
-use Rattle.llb_board.specs.declared.vertices.stage.Stage.{Stage}
-use Rattle.llb_board.specs.declared.vertices.stage.Stage.TheVariants as stage
+use Rattle.llb_board.specs.UsersAndOpenInputs.{Linked, IsLinked, AreLowered, AreRaised, has_inputs}
+use Rattle.llb_board.specs.declared.vertices.vertex_state.Stage.{Stage}
+use Rattle.llb_board.specs.declared.vertices.vertex_state.Stage.TheVariants as stage
 
 -- ---- what contracts see
 

@@ -1,9 +1,9 @@
 -- The values of the model that represent what the code keeps for a worker.
 use Rattle.std.specs.Prelude.{ℕ, Option, Some, None}
 use Rattle.llb_model.specs.State as model
-use Rattle.llb_board.specs.declared.workers.seat.Seat.{Seat}
-use Rattle.llb_board.specs.declared.workers.seat.Seat.TheVariants as seat
-use Rattle.llb_board.specs.declared.workers.seat.Execution.{Execution}
+use Rattle.llb_board.specs.declared.workers.running_workers.Seat.{Seat}
+use Rattle.llb_board.specs.declared.workers.running_workers.Seat.TheVariants as seat
+use Rattle.llb_board.specs.declared.workers.running_workers.Execution.{Execution}
 
 -- the model's execution for an execution of the code
 abbrev pub execution_of : Execution → model.Execution

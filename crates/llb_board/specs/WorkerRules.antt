@@ -2,10 +2,10 @@
 use Rattle.std.specs.Prelude.{ℕ, List, Option, Some, None, Result, Ok, Err, if◌then◌else◌}
 use Rattle.llb_loader.specs.declared.graph.Vertex.{Vertex}
 use Rattle.llb_tree.specs.Tree.{TreeMap}
-use Rattle.llb_cache.specs.declared.need.Need as cache_need
+use Rattle.llb_cache.specs.declared.lease_needs.Need as cache_need
 use Rattle.llb_cache.specs.Caches.{CachesValue, Row}
 use Rattle.llb_model.specs.Caches.{Instance, trees_at}
-use Rattle.llb_model.specs.CacheBridge.{store_of, asked, put_each, places_taken}
+use Rattle.llb_model.specs.TwoCacheModels.{store_of, asked, put_each, places_taken}
 use Rattle.llb_model.specs.Program.{Build, MicroStep, Left, needs_of, start_with, step_on}
 use Rattle.llb_model.specs.State.{Status, Settled, WorkerStatus, Idle, Runs, Execution, program_in, is_finished, next_step, ending_from, begin_at}
 use Rattle.llb_model.specs.Table.{Reply, Claimed, execution_on, job_on}

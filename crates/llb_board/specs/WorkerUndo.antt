@@ -2,11 +2,11 @@
 use Rattle.std.specs.Prelude.{◌-◌, Option, Some, None}
 use Rattle.llb_execution.specs.SavedWorkspaces.{Saved, put_back}
 use Rattle.llb_model.specs.State.{Execution}
-use Rattle.llb_board.specs.Supplies.{Supplies, supplies_of}
+use Rattle.llb_board.specs.RunningWorkerSupplies.{Supplies, supplies_of}
 use Rattle.llb_board.specs.WorkerModelValues.{execution_of}
-use Rattle.llb_board.specs.declared.workers.seat.Seat.{Seat}
-use Rattle.llb_board.specs.declared.workers.seat.Seat.TheVariants as seat
-use Rattle.llb_board.specs.declared.workers.seat.Execution as own
+use Rattle.llb_board.specs.declared.workers.running_workers.Seat.{Seat}
+use Rattle.llb_board.specs.declared.workers.running_workers.Seat.TheVariants as seat
+use Rattle.llb_board.specs.declared.workers.running_workers.Execution as own
 
 -- what a worker held before its settle or its cancel
 pub record Left : Type 0 where

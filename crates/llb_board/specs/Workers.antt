@@ -1,11 +1,11 @@
 -- The workers, as contracts see them, and what holds of the workers.
 use Rattle.std.specs.Prelude.{◌≡◌, ℕ, ◌+◌, ◌<◌, ◌≤◌, List, map, length, Option, Some, None, slice_get, slice_set, Result, Ok, Err}
-use Rattle.llb_cache.specs.declared.need.Need as cache_need
+use Rattle.llb_cache.specs.declared.lease_needs.Need as cache_need
 use Rattle.llb_cache.specs.Caches.{Row, Leases}
 use Rattle.llb_loader.specs.declared.graph.Vertex.{Vertex}
 use Rattle.llb_tree.specs.Tree.{TreeMap}
 use Rattle.llb_model.specs.Caches.{put_all}
-use Rattle.llb_model.specs.CacheBridge.{store_of, AreLeased, asked}
+use Rattle.llb_model.specs.TwoCacheModels.{store_of, AreLeased, asked}
 use Rattle.llb_model.specs.Program.{Build, needs_of, start_with}
 use Rattle.llb_model.specs.State.{State, Running, Execution, WorkerStatus, Idle, Runs, held, held_key, places_for}
 use Rattle.llb_model.specs.Table.{Job, Reply, Claimed, claim_start, claim_at, claim_grant, step_grant}
@@ -13,7 +13,7 @@ use Rattle.llb_events.specs.declared.refusal.ClaimFault.{ClaimFault}
 use Rattle.llb_events.specs.declared.refusal.StepFault.{StepFault}
 use Rattle.llb_board.specs.Jobs.{IsRunOf}
 use Rattle.llb_execution.specs.Jobs.{OutcomeValue}
-use Rattle.llb_board.specs.Supplies.{Supplies, supplies_for, needed}
+use Rattle.llb_board.specs.RunningWorkerSupplies.{Supplies, supplies_for, needed}
 use Rattle.llb_board.specs.WorkerRules.{Begun}
 use Rattle.llb_board.specs.Vertices.{VerticesValue}
 

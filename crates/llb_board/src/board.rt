@@ -13,11 +13,11 @@ ghost use Rattle.llb_model.specs.EventBounds.{most_events, owed, still_to_come};
 ghost use Rattle.llb_model.specs.Run.{chosen, is_complete};
 ghost use Rattle.llb_model.specs.WholeRunLaws.{IsReached};
 ghost use Rattle.llb_loader.specs.Graph.{IsGraph};
-ghost use Rattle.llb_board.specs.Links.{users_of};
-ghost use Rattle.llb_wire.specs.Answer.{MemoryLast};
+ghost use Rattle.llb_board.specs.UsersAndOpenInputs.{users_of};
+ghost use Rattle.llb_wire.specs.CallResults.{MemoryLast};
 ghost use Rattle.llb_cache.specs.Caches.{leases};
 ghost use Rattle.llb_model.specs.Caches.{content, place};
-ghost use Rattle.llb_model.specs.CacheBridge.{store_of, HoldsAs};
+ghost use Rattle.llb_model.specs.TwoCacheModels.{store_of, HoldsAs};
 ghost use Rattle.llb_events.specs.Faults.{step_memory, GivesStep, GivesSettle, GivesCancel};
 ghost use Rattle.llb_events.specs.Faults.{GivesClaim, claim_memory, claim_may_want};
 ghost use Rattle.llb_board.specs.Statuses.{look_at, worker_look};
@@ -28,19 +28,19 @@ ghost use Rattle.llb_board.specs.declared.fault.OpenFault.TheVariants as opening
 ghost use Rattle.llb_board.specs.Opening.{may_work, open_memory, GivesOpen, open_of, open_with, returned, may_want_memory};
 ghost use Rattle.llb_board.specs.EventResults.{claim_of, step_of, settle_of, cancel_of};
 
-mod choice;
+mod chosen_event;
 mod copying;
 mod landing;
 mod same;
 mod undo;
-mod walk;
+mod undoable_event;
 
 use crate::fault::OpenFault;
 use crate::history::{Events, History};
 use crate::status::{Status, WorkerStatus};
 use crate::vertices::{Stage, Vertices};
 use crate::workers::Workers;
-use choice::next_event;
+use chosen_event::next_event;
 use llb_cache::{Caches, Key};
 use llb_events::{
     CancelFault, Cancelled, ClaimFault, Event, SettleFault, Settled, StepFault, Stepped,
@@ -51,7 +51,7 @@ use llb_tree::Tree;
 use llb_wire::{Memory, Text};
 use std::alloc::Global;
 use std::marker::Model;
-pub use walk::{Reply, Walked};
+pub use undoable_event::{Reply, Walked};
 
 /// The state of a run: the vertices of a graph with its local trees, the workers, the caches, and the record of the events so far.
 pub struct Board {

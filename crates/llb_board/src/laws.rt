@@ -9,7 +9,7 @@ ghost use Rattle.llb_model.specs.Landing.{LandsAsBlock};
 ghost use Rattle.llb_model.specs.WholeRunLaws as machine;
 ghost use Rattle.llb_board.specs.Laws.{SettledArePlain, ChosenIsGranted, OthersKeep, OneWorkerEach, ReadyBehindDone, BlockedBehindAFailure, OutcomeByInputs};
 ghost use Rattle.llb_board.specs.PlainVertexJobs.{BegunArePlain, ClaimsArePlain, KnownLand};
-ghost use Rattle.llb_board.specs.Headline.{Headline, StandsInClaimOrder};
+ghost use Rattle.llb_board.specs.MachinePromise.{Headline, StandsInClaimOrder};
 
 use crate::board::Board;
 

@@ -20,9 +20,9 @@ mod board;
 mod fault;
 mod history;
 pub mod laws;
-mod links;
 mod status;
-mod trees;
+mod tree_list_copies;
+mod users_and_open_inputs;
 mod vertices;
 mod workers;
 

@@ -6,7 +6,7 @@ ghost use Rattle.std.specs.Prelude.{◌≡◌, ◌<◌, ◌^◌, ◌||◌, IfOk,
 ghost use Rattle.std.specs.Prelude.{MatchResult, map, ℕ, ◌+◌, All, get_or};
 ghost use Rattle.llb_events.specs.Faults.{GivesClaim};
 ghost use Rattle.llb_loader.specs.Graph.{IsGraph, IsVertexOf};
-ghost use Rattle.llb_board.specs.Links.{IsLinked, users_at, users_of};
+ghost use Rattle.llb_board.specs.UsersAndOpenInputs.{IsLinked, users_at, users_of};
 ghost use Rattle.llb_model.specs.Outcome.{inputs_from, output_in};
 ghost use Rattle.llb_model.specs.Program.{program_at, program_of};
 ghost use Rattle.llb_model.specs.Run.{least, each, is_settled};
@@ -14,27 +14,27 @@ ghost use Rattle.llb_model.specs.State.{Idle, ending_at, is_blocked, is_ready};
 ghost use Rattle.llb_model.specs.Table.{claim_start, or_not_ready};
 ghost use Rattle.llb_board.specs.Statuses.{look, look_in};
 ghost use Rattle.llb_board.specs.Vertices.{all_waiting, with_status, status_of, AreCounted, IsWhole};
-ghost use Rattle.llb_board.specs.declared.vertices.stage.Stage.TheVariants as stage;
+ghost use Rattle.llb_board.specs.declared.vertices.vertex_state.Stage.TheVariants as stage;
 
 mod build;
-mod marks;
-mod over;
-mod stage;
+mod claimable_vertices;
+mod failed_and_downstream;
+mod vertex_state;
 
-use crate::links::Links;
 use crate::status::Status;
+use crate::users_and_open_inputs::Links;
 use build::Build;
+use claimable_vertices::{first_open, is_ended, is_ready};
+use failed_and_downstream::{is_marked, mark};
 use llb_events::ClaimFault;
 use llb_execution::{Outputs, gathered};
 use llb_loader::{Edge, Graph, Locals, Vertex};
 use llb_tree::Tree;
 use llb_wire::{Memory, Same, all_same};
-use marks::{is_marked, mark};
-use over::{first_open, is_ended, is_ready};
-pub(crate) use stage::Stage;
 use std::alloc::{AllocError, Global};
 use std::marker::Model;
 use std::mem;
+pub(crate) use vertex_state::Stage;
 
 /// A graph with its local trees, and the state of each vertex. Contracts see the build (graph and local trees) and the statuses.
 pub(crate) struct Vertices {

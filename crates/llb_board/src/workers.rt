@@ -3,33 +3,33 @@
 
 ghost use Rattle.std.specs.Prelude.{◌≡◌, ◌↔◌, ◌<◌, ◌≤◌, [], IsTrue, length, option_map, replicate, slice_get, IfOk, IfErr};
 ghost use Rattle.llb_cache.specs.Caches.{leases};
-ghost use Rattle.llb_model.specs.CacheBridge.{HoldsAs};
+ghost use Rattle.llb_model.specs.TwoCacheModels.{HoldsAs};
 ghost use Rattle.llb_model.specs.State.{Execution, Idle, runs, places_at};
-ghost use Rattle.llb_board.specs.Supplies.{supplies_for};
+ghost use Rattle.llb_board.specs.RunningWorkerSupplies.{supplies_for};
 ghost use Rattle.llb_board.specs.Statuses.{look_of};
 
+mod cache_needs;
+mod claim_preparation;
 mod claiming;
 mod comparing;
 mod copying;
-mod ending;
-mod instances;
 mod landing;
-mod leaving;
-mod looking;
-mod needs;
-mod outfit;
-mod seat;
+mod leased_instances;
+mod running_workers;
+mod settles_and_cancels;
 mod stepping;
+mod taken_outputs;
 mod undoing;
+mod worked_on_trees;
 
 use crate::status::WorkerStatus;
 use crate::vertices::Vertices;
 use copying::copied_seats;
-use instances::give_all_back;
+use leased_instances::give_all_back;
 use llb_cache::{Caches, Instance};
 use llb_execution::Workspace;
 use llb_wire::Memory;
-use seat::{Seat, idle, is_finished, same_seats, seat_at};
+use running_workers::{Seat, idle, is_finished, same_seats, seat_at};
 use std::alloc::Global;
 use std::marker::Model;
 pub use undoing::Undo;
@@ -54,7 +54,7 @@ impl Model for Workers {
     ghost use Rattle.std.specs.Coded.{codes};
     ghost use Rattle.std.specs.Prelude.{map};
     ghost use Rattle.llb_tree.specs.CodedTrees.{coded_tree};
-    ghost use Rattle.llb_board.specs.Supplies.{ready_made};
+    ghost use Rattle.llb_board.specs.RunningWorkerSupplies.{ready_made};
     ghost use Rattle.llb_board.specs.WorkerModelValues.{at_of, leased_by};
     ghost use Rattle.llb_board.specs.Workers.{WorkersValue, IsCrew};
 

@@ -5,8 +5,8 @@ use Rattle.std.specs.List.{All, AllPairs, AllByRecursion, Contains}
 use Rattle.std.proofs.lemmas.List.Elements.{All-from_recursion}
 use Rattle.llb_tree.specs.Tree.{TreeMap}
 use Rattle.llb_cache.specs.declared.key.Key.{Key}
-use Rattle.llb_cache.specs.declared.need.Need.{Need}
-use Rattle.llb_cache.specs.declared.need.Instance.{Instance}
+use Rattle.llb_cache.specs.declared.lease_needs.Need.{Need}
+use Rattle.llb_cache.specs.declared.lease_needs.Instance.{Instance}
 use Rattle.llb_cache.specs.Caches.{CachesValue, Row, Leases, Taken, place_for, taken, made_all, is_locked_and_held, is_held, leases, granted}
 use Rattle.llb_cache.specs.Caches.{free_lease, with_lease, put, given_back, trimmed, trees_of, IsCaches, IsExclusive, Has, AreExclusive, AreApart, AreThere}
 use Rattle.llb_cache.proofs.ListMembership.{In, in_contained, in_map, pairs_map}

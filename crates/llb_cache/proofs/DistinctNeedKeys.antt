@@ -6,9 +6,9 @@ use Rattle.std.proofs.lemmas.List.{take_more, get_or-take, get_or_default}
 use Rattle.std.proofs.lemmas.List.Quantifiers.{all_pairs_push}
 use Rattle.std.proofs.lemmas.List.Elements.{Contains-get_or}
 use Rattle.llb_cache.specs.declared.key.Key.{Key}
-use Rattle.llb_cache.specs.declared.need.Need.{Need}
+use Rattle.llb_cache.specs.declared.lease_needs.Need.{Need}
 use Rattle.llb_cache.specs.Key.{same_key}
-use Rattle.llb_cache.specs.LawsOfKeys.{same_keys, key_itself}
+use Rattle.llb_cache.specs.KeyEquality.{same_keys, key_itself}
 use Rattle.llb_cache.proofs.ListMembership.{In, in_contained, contained_in}
 
 abbrev pub Differ : List Need → Type 0

@@ -6,12 +6,12 @@ use Rattle.std.specs.List.{AllPairs}
 use Rattle.std.proofs.lemmas.Bool.{false_from_ne_true}
 use Rattle.std.specs.Map.{keys_of}
 use Rattle.llb_tree.specs.Tree.{TreeMap}
-use Rattle.llb_cache.specs.declared.need.Need.{Need}
-use Rattle.llb_cache.specs.declared.need.Instance.{Instance}
+use Rattle.llb_cache.specs.declared.lease_needs.Need.{Need}
+use Rattle.llb_cache.specs.declared.lease_needs.Instance.{Instance}
 use Rattle.llb_cache.specs.Caches.{CachesValue, Row, Leases, taken, is_locked_and_held, is_held, leases, granted, with_lease, free_lease, put, given_back}
 use Rattle.llb_cache.specs.Caches.{trimmed, before}
 use Rattle.llb_cache.specs.Caches.{places_of, IsCaches, IsExclusive, Has}
-use Rattle.llb_cache.proofs.FirstRows.{keys_long}
+use Rattle.llb_cache.proofs.FirstRowOfKey.{keys_long}
 use Rattle.llb_cache.proofs.ListMembership.{In, contained_in}
 use Rattle.llb_cache.proofs.InstanceHolders.{held_by, holder, in_any, in_place, lease_cases, lease_has, back_cases, trimmed_has}
 use Rattle.llb_cache.specs.InstanceMarks.{marked, Remarks, is_one_of, IsMarked}

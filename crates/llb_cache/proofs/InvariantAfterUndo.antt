@@ -5,9 +5,9 @@ use Rattle.std.specs.Map.{keys_of}
 use Rattle.std.proofs.lemmas.Bool.{false_from_ne_true}
 use Rattle.std.proofs.lemmas.List.Elements.{All-contains}
 use Rattle.llb_cache.specs.declared.key.Key.{Key}
-use Rattle.llb_cache.specs.declared.need.Instance.{Instance}
+use Rattle.llb_cache.specs.declared.lease_needs.Instance.{Instance}
 use Rattle.llb_cache.specs.Caches.{CachesValue, Row, trees_of, is_held, free_lease, IsCaches, IsExclusive, AreThere}
-use Rattle.llb_cache.specs.LeaseGrowth.{LentValue, CanLend, lent_again}
+use Rattle.llb_cache.specs.LeaseAdditions.{LentValue, CanLend, lent_again}
 use Rattle.llb_cache.proofs.ListMembership.{contained_in}
 use Rattle.llb_cache.proofs.InstanceHolders.{holder, lease_short, trimmed_lease}
 use Rattle.llb_cache.specs.InstanceMarks.{Remarks, Unmarks, is_one_of, IsMarked}

@@ -9,11 +9,11 @@ pub mod RowInsertion
 pub mod ChosenInstances
 pub mod RowSearchStep
 pub mod RowTreeWrites
-pub mod RemovedGrowth
+pub mod RemovedAdditions
 pub mod RowOrderWithoutLast
 pub mod InvariantAfterUndo
 pub mod RevertedLeases
-pub mod FirstRows
+pub mod FirstRowOfKey
 pub mod KeyOrder
 pub mod ListMembership
 pub mod TreesOfKeys

@@ -4,14 +4,14 @@ use Rattle.std.proofs.Common.{unwrap_or, nat_lt, refl, sym, ap, ◌∙◌, arith
 use Rattle.std.specs.Map.{lookup}
 use Rattle.std.proofs.Math.Seq.{take-append_seam}
 use Rattle.llb_tree.specs.Tree.{TreeMap}
-use Rattle.llb_cache.specs.declared.growth.Growth.TheVariants.{Nothing, NewInstance}
+use Rattle.llb_cache.specs.declared.lease_additions.Growth.TheVariants.{Nothing, NewInstance}
 use Rattle.llb_cache.specs.declared.key.Key.{Key}
-use Rattle.llb_cache.specs.declared.need.Instance.{Instance}
+use Rattle.llb_cache.specs.declared.lease_needs.Instance.{Instance}
 use Rattle.llb_cache.specs.Key.{same_key}
-use Rattle.llb_cache.specs.LawsOfKeys.{key_itself}
+use Rattle.llb_cache.specs.KeyEquality.{key_itself}
 use Rattle.llb_cache.specs.Caches.{Row, trees_of, with_trees, made}
-use Rattle.llb_cache.proofs.FirstRows.{absent_found, written_absent}
-use Rattle.llb_cache.specs.LeaseGrowth.{front, growth_by, growth_at, shorter, unmade_one}
+use Rattle.llb_cache.proofs.FirstRowOfKey.{absent_found, written_absent}
+use Rattle.llb_cache.specs.LeaseAdditions.{front, growth_by, growth_at, shorter, unmade_one}
 use Rattle.llb_cache.proofs.TreesOfKeys.{found_again, found_before}
 
 front_pushed : {A : Type 0} (xs : List A) (x : A) → front (xs ++ x ∷ []) ≡ xs

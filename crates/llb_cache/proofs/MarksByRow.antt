@@ -5,12 +5,12 @@ use Rattle.std.specs.Prelude.{◌==◌}
 use Rattle.std.specs.Map.{keys_of, lookup}
 use Rattle.llb_tree.specs.Tree.{TreeMap}
 use Rattle.llb_cache.specs.declared.key.Key.{Key}
-use Rattle.llb_cache.specs.declared.need.Instance.{Instance}
+use Rattle.llb_cache.specs.declared.lease_needs.Instance.{Instance}
 use Rattle.llb_cache.specs.Key.{same_key}
-use Rattle.llb_cache.specs.LawsOfKeys.{same_keys, key_equiv}
+use Rattle.llb_cache.specs.KeyEquality.{same_keys, key_equiv}
 use Rattle.llb_cache.specs.Caches.{Row, same_place, with_trees}
-use Rattle.llb_cache.specs.FirstRows.{IsAbsent, IsFirst, set_trees}
-use Rattle.llb_cache.proofs.FirstRows.{first_placed, absent_found}
+use Rattle.llb_cache.specs.FirstRowOfKey.{IsAbsent, IsFirst, set_trees}
+use Rattle.llb_cache.proofs.FirstRowOfKey.{first_placed, absent_found}
 use Rattle.llb_cache.proofs.InstanceHolders.{same_places}
 use Rattle.llb_cache.specs.InstanceMarks.{marked, Remarks}
 

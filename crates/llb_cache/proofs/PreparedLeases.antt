@@ -1,8 +1,8 @@
 -- What a lease has made ready is what its needs take.
 use Rattle.std.proofs.Common.{◌≡◌, ℕ, List, [], ◌∷◌, map, None, Ok, find, refl, sym, ap, ◌∙◌, unwrap_or}
-use Rattle.llb_cache.specs.declared.need.Need.{Need}
-use Rattle.llb_cache.specs.declared.need.Instance.{Instance}
-use Rattle.llb_cache.specs.declared.growing.Ready.{Ready}
+use Rattle.llb_cache.specs.declared.lease_needs.Need.{Need}
+use Rattle.llb_cache.specs.declared.lease_needs.Instance.{Instance}
+use Rattle.llb_cache.specs.declared.taken_instances.Ready.{Ready}
 use Rattle.llb_cache.specs.LeasePreparation.{shown}
 use Rattle.llb_cache.specs.Caches.{CachesValue, Row, Leases, Taken, taken, made_all, is_locked_and_held, free_lease, with_lease, granted, lease_by}
 use Rattle.llb_cache.specs.Caches.{lease_of, places_of, place_for}

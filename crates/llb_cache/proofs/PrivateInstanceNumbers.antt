@@ -9,9 +9,9 @@ use native.Mathlib.Decide.{dec_lt}
 use Rattle.llb_cache.specs.declared.key.Key.{Key}
 use Rattle.llb_cache.specs.declared.key.Mode.{Mode}
 use Rattle.llb_cache.specs.declared.key.Mode.TheVariants.{Shared, Private, Locked}
-use Rattle.llb_cache.specs.declared.need.Instance.{Instance}
+use Rattle.llb_cache.specs.declared.lease_needs.Instance.{Instance}
 use Rattle.llb_cache.specs.Key.{same_key}
-use Rattle.llb_cache.specs.LawsOfKeys.{same_keys, key_itself}
+use Rattle.llb_cache.specs.KeyEquality.{same_keys, key_itself}
 use Rattle.llb_cache.specs.Caches.{Row, Leases, place, is_held, leases, first_free, number_for, is_locked, IsExclusive, Has, AreApart, AreThere, trees_of}
 use Rattle.llb_cache.proofs.ListMembership.{In, contained_in, pairs_head, pairs_tail, no_fewer}
 use Rattle.llb_cache.proofs.InstanceHolders.{holder}

@@ -5,13 +5,13 @@ use Rattle.std.proofs.Common.{unwrap_or, nat_lt, refl, sym, ap, ◌∙◌, arith
 use Rattle.std.specs.List.{AllPairs, AllByRecursion}
 use Rattle.std.proofs.lemmas.Bool.{ltb-false, false_from_ne_true}
 use Rattle.llb_tree.specs.Tree.{TreeMap}
-use Rattle.llb_cache.specs.declared.growth.Growth.{Growth}
-use Rattle.llb_cache.specs.declared.need.Need.{Need}
-use Rattle.llb_cache.specs.declared.need.Instance.{Instance}
+use Rattle.llb_cache.specs.declared.lease_additions.Growth.{Growth}
+use Rattle.llb_cache.specs.declared.lease_needs.Need.{Need}
+use Rattle.llb_cache.specs.declared.lease_needs.Instance.{Instance}
 use Rattle.llb_cache.specs.Key.{same_key}
-use Rattle.llb_cache.specs.LawsOfKeys.{same_keys}
+use Rattle.llb_cache.specs.KeyEquality.{same_keys}
 use Rattle.llb_cache.specs.Caches.{CachesValue, Row, Leases, Taken, place_for, taken, made, made_all, granted, free_lease, with_lease, trimmed, places_of, Has}
-use Rattle.llb_cache.specs.LeaseGrowth.{growth_by, growth_at, growths, unmade, unmade_one, taken_back}
+use Rattle.llb_cache.specs.LeaseAdditions.{growth_by, growth_at, growths, unmade, unmade_one, taken_back}
 use Rattle.llb_cache.proofs.InstanceHolders.{free_within, lease_has, trimmed_none}
 use Rattle.llb_cache.proofs.ListMembership.{In, pairs_head, pairs_tail}
 use Rattle.llb_cache.proofs.MadeThenRemoved.{unmade_made, look_made}

@@ -13,12 +13,12 @@ use Rattle.std.proofs.lemmas.Map.Keys.{IsDistinct-push, IsDistinct-head, IsDisti
 use Rattle.llb_tree.specs.Tree.{TreeMap}
 use Rattle.llb_cache.specs.declared.key.Key.{Key}
 use Rattle.llb_cache.specs.Key.{same_key}
-use Rattle.llb_cache.specs.LawsOfKeys.{same_keys, key_equiv}
+use Rattle.llb_cache.specs.KeyEquality.{same_keys, key_equiv}
 use Rattle.llb_cache.specs.KeyOrder.{key_cmp}
 use Rattle.llb_cache.proofs.KeyOrder.{key_cmp-IsTotalOrder, tie_is_same}
 use Rattle.llb_cache.specs.Caches.{Row}
-use Rattle.llb_cache.specs.FirstRows.{IsAbsent, IsFirst}
-use Rattle.llb_cache.proofs.FirstRows.{keys_long, place_first, place_absent, first_trees, first_found, absent_trees}
+use Rattle.llb_cache.specs.FirstRowOfKey.{IsAbsent, IsFirst}
+use Rattle.llb_cache.proofs.FirstRowOfKey.{keys_long, place_first, place_absent, first_trees, first_found, absent_trees}
 use Rattle.llb_cache.specs.RowOrder.{no_key, key_at, row_at, is_before, IsOrdered, IsPlace}
 
 -- ---- two keys

@@ -3,7 +3,7 @@ use Rattle.std.proofs.Common.{◌≡◌, ℕ, zero, suc, ◌<◌, List, [], ◌�
 use Rattle.std.specs.Map.{values_of}
 use Rattle.llb_tree.specs.Tree.{TreeMap}
 use Rattle.llb_cache.specs.Caches.{Row}
-use Rattle.llb_cache.specs.FirstRows.{set_trees}
+use Rattle.llb_cache.specs.FirstRowOfKey.{set_trees}
 
 pub trees_read : (es : List Row) (i : ℕ) (e : Row) → i < length es → e ≡ slice_index_or es i e → slice_get (values_of es) i ≡ Some e.1
 trees_read [] i e below is = absurd (omega (arith, below))

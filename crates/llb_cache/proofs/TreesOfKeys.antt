@@ -9,12 +9,12 @@ use Rattle.std.proofs.lemmas.Bool.{ltb-true, ltb-false}
 use Rattle.std.proofs.lemmas.List.{length-set}
 use Rattle.llb_tree.specs.Tree.{TreeMap}
 use Rattle.llb_cache.specs.declared.key.Key.{Key}
-use Rattle.llb_cache.specs.declared.need.Instance.{Instance}
+use Rattle.llb_cache.specs.declared.lease_needs.Instance.{Instance}
 use Rattle.llb_cache.specs.Key.{same_key}
-use Rattle.llb_cache.specs.LawsOfKeys.{same_keys, key_itself}
+use Rattle.llb_cache.specs.KeyEquality.{same_keys, key_itself}
 use Rattle.llb_cache.specs.Caches.{Row, Taken, trees_of, with_trees, put, made, made_all, AreFew}
-use Rattle.llb_cache.specs.FirstRows.{set_trees}
-use Rattle.llb_cache.proofs.FirstRows.{first_placed, first_trees, written_first}
+use Rattle.llb_cache.specs.FirstRowOfKey.{set_trees}
+use Rattle.llb_cache.proofs.FirstRowOfKey.{first_placed, first_trees, written_first}
 
 -- ---- a write at the position of a key
 

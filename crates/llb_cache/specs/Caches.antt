@@ -10,8 +10,8 @@ use Rattle.llb_cache.specs.Key.{same_key}
 use Rattle.llb_cache.specs.declared.key.Key.{Key}
 use Rattle.llb_cache.specs.declared.key.Mode.{Mode}
 use Rattle.llb_cache.specs.declared.key.Mode.TheVariants.{Shared, Private, Locked}
-use Rattle.llb_cache.specs.declared.need.Need.{Need}
-use Rattle.llb_cache.specs.declared.need.Instance.{Instance}
+use Rattle.llb_cache.specs.declared.lease_needs.Need.{Need}
+use Rattle.llb_cache.specs.declared.lease_needs.Instance.{Instance}
 use Rattle.llb_cache.specs.declared.fault.LeaseFault.{LeaseFault}
 use Rattle.llb_cache.specs.declared.fault.LeaseFault.TheVariants.{Held}
 

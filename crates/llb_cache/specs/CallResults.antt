@@ -1,6 +1,6 @@
 -- The result of a call on leases: the result of its rule (for `lease`, the definition `lease_of`), or `Memory`.
 use Rattle.std.specs.Prelude.{Bool, true, false, Result}
-use Rattle.llb_wire.specs.Answer as answer
+use Rattle.llb_wire.specs.CallResults as answer
 use Rattle.llb_cache.specs.declared.fault.LeaseFault.{LeaseFault}
 use Rattle.llb_cache.specs.declared.fault.LeaseFault.TheVariants.{Held, Memory}
 

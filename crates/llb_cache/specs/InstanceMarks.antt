@@ -3,7 +3,7 @@ use Rattle.std.specs.Prelude.{◌≡◌, ◌⊎◌, Bool, false, List, [], ◌�
 use Rattle.std.specs.List.{list_any}
 use Rattle.std.specs.Map.{keys_of}
 use Rattle.llb_cache.specs.declared.key.Key.{Key}
-use Rattle.llb_cache.specs.declared.need.Instance.{Instance}
+use Rattle.llb_cache.specs.declared.lease_needs.Instance.{Instance}
 use Rattle.llb_cache.specs.Key.{same_key}
 use Rattle.llb_cache.specs.Caches.{CachesValue, Row, IsCaches, IsExclusive, same_place, is_held, trees_of}
 

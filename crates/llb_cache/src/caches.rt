@@ -9,13 +9,15 @@ ghost use Rattle.llb_cache.specs.CallResults.{Gives, MemoryLast};
 
 use crate::copying::{copied_leases, copied_marks, copied_rows, same_rows};
 use crate::fault::{LeaseFault, Memory};
-use crate::growing::{make_all, places_at, places_for, set_at, take_back, take_lease, unmark_all};
+use crate::instance_marks::Marks;
+use crate::instance_search::{count, keys_differ};
 use crate::key::Key;
 use crate::key_ref::KeyRef;
-use crate::marks::Marks;
-use crate::need::{Instance, Need};
+use crate::lease_needs::{Instance, Need};
 use crate::rows::{Rows, key_at, no_rows, reserve, trees_at, trees_with};
-use crate::search::{count, keys_differ};
+use crate::taken_instances::{
+    make_all, places_at, places_for, set_at, take_back, take_lease, unmark_all,
+};
 use llb_tree::Tree;
 use llb_wire::{Many, all_same};
 use std::alloc::Global;

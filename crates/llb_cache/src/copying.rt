@@ -3,11 +3,11 @@
 ghost use Rattle.std.specs.Prelude.{◌≡◌, ◌↔◌, IsTrue, IfOk};
 ghost use Rattle.llb_cache.specs.RowOrder.{AreOrdered};
 
+use crate::instance_marks::Marks;
+use crate::instance_trees::Trees;
 use crate::key::Key;
-use crate::marks::Marks;
-use crate::need::Instance;
+use crate::lease_needs::Instance;
 use crate::rows::Rows;
-use crate::trees::Trees;
 use llb_wire::{Many, Memory, Same};
 use std::alloc::Global;
 

@@ -127,7 +127,7 @@ impl fmt::Display for Key {
 impl PartialEq for Key {
     ghost use Rattle.std.specs.Cmp.{partial_equiv_from_equiv};
     ghost use Rattle.llb_cache.specs.Key.{same_key};
-    ghost use Rattle.llb_cache.specs.LawsOfKeys.{key_equiv};
+    ghost use Rattle.llb_cache.specs.KeyEquality.{key_equiv};
 
     ghost eq = { same_key };
 
@@ -146,7 +146,7 @@ impl PartialEq for Key {
 }
 
 impl Eq for Key {
-    ghost use Rattle.llb_cache.specs.LawsOfKeys.{key_equiv};
+    ghost use Rattle.llb_cache.specs.KeyEquality.{key_equiv};
 
     ghost laws = { key_equiv };
 }

@@ -5,13 +5,13 @@ ghost use Rattle.std.specs.Prelude.{◌≡◌, ◌<◌, ◌+◌, ℕ, false, [],
 ghost use Rattle.std.specs.Prelude.{is_some, option_map, position, slice_get};
 ghost use Rattle.std.specs.Map.{keys_of, values_of, lookup};
 ghost use Rattle.llb_cache.specs.Caches.{with_trees};
-ghost use Rattle.llb_cache.specs.LeaseGrowth.{front, shorter};
+ghost use Rattle.llb_cache.specs.LeaseAdditions.{front, shorter};
 ghost use Rattle.llb_cache.specs.Key.{same_key};
 ghost use Rattle.llb_cache.specs.RowOrder.{has_key, is_before, IsPlace, AreOrdered, HasRoom};
 
+use crate::instance_trees::Trees;
 use crate::key::Key;
 use crate::key_ref::KeyRef;
-use crate::trees::Trees;
 use llb_wire::Memory;
 use std::alloc::Global;
 

@@ -12,10 +12,10 @@ use Rattle.clap.specs.declared.error.kind.ErrorKind.TheVariants.{OutOfMemory}
 use Rattle.clap.specs.declared.parser.matches.Found.{Found}
 use Rattle.llb_commands.specs.CommandLine.{named_local_words, local_words, Refuses, RefusesWord, IsFaultOfKind}
 use Rattle.llb_commands.specs.HelpPages.{HasPage, IsByWordsWithPage, named_first, page_for}
-use Rattle.llb_commands.specs.declared.words.Line.{Line}
-use Rattle.llb_commands.specs.declared.words.Refusal.{Refusal}
-use Rattle.llb_commands.specs.declared.words.WordsFault.{WordsFault}
-use Rattle.llb_commands.specs.declared.words.WordsFault.TheVariants.{Words, Memory}
+use Rattle.llb_commands.specs.declared.command_line_words.Line.{Line}
+use Rattle.llb_commands.specs.declared.command_line_words.Refusal.{Refusal}
+use Rattle.llb_commands.specs.declared.command_line_words.WordsFault.{WordsFault}
+use Rattle.llb_commands.specs.declared.command_line_words.WordsFault.TheVariants.{Words, Memory}
 
 abbrev words_at : Text → List Entry → Option (List Text)
 words_at id es = option_map raw_values (option_map (λ e. e.1) (find (λ e. bytes_eq e.0.now id) es))

@@ -8,7 +8,7 @@ use Rattle.llb_loader.specs.LocalSources.{Local}
 use Rattle.llb_events.specs.declared.fault.VertexFault.{VertexFault}
 use Rattle.llb_tree.specs.Tree.{TreeMap}
 use Rattle.llb_model.specs.Caches.{no_instances}
-use Rattle.llb_model.specs.CacheBridge.{store_of}
+use Rattle.llb_model.specs.TwoCacheModels.{store_of}
 use Rattle.llb_model.specs.Program.{Build}
 use Rattle.llb_model.specs.Outcome.{Done, Failed, Outcome, ending_in, outcome, output_in}
 use Rattle.llb_model.specs.State.{Status, Waiting, Running, Settled, State, Opening, opening, ending_of, ending_at, is_done, is_stopped}

@@ -13,8 +13,8 @@ use Rattle.llb_commands.specs.CallStreams.{Stream}
 use Rattle.llb_commands.specs.Faults.{Tells}
 use Rattle.llb_commands.specs.FindingLines.{AreFound, IsTooLong, FindsUnread, FindsIn, Finds, PrintsFound, ListsAll, ListsPart, ListsIn}
 use Rattle.llb_commands.specs.Running.{IsRefusal}
-use Rattle.llb_commands.specs.declared.bounded.ReadFault.{ReadFault}
-use Rattle.llb_commands.specs.declared.bounded.ReadFault.TheVariants as reading
+use Rattle.llb_commands.specs.declared.bounded_reading.ReadFault.{ReadFault}
+use Rattle.llb_commands.specs.declared.bounded_reading.ReadFault.TheVariants as reading
 use Rattle.llb_commands.specs.declared.fault.ProgramFault.{ProgramFault}
 use Rattle.llb_commands.proofs.RunOutput.{refusal_or_three, some_map, too_long, unread_long}
 

@@ -2,9 +2,9 @@
 use Rattle.std.proofs.Common.{sym, subst}
 use Rattle.llb_loader.specs.Graph.{Numbered, IsGraph}
 use Rattle.llb_model.specs.State.{opening}
-use Rattle.llb_model.proofs.ExclusiveInstanceFrame as others
+use Rattle.llb_model.proofs.UntouchedExclusiveInstances as others
 use Rattle.llb_model.proofs.PlainVertexStates.{opening_plain, run_plain}
-use Rattle.llb_board.specs.Headline.{LockedOnce}
+use Rattle.llb_board.specs.MachinePromise.{LockedOnce}
 use Rattle.llb_board.specs.Laws.{SettledArePlain}
 use Rattle.llb_commands.specs.Aim.{AfterAll}
 

@@ -17,7 +17,7 @@ use Rattle.llb_board.specs.BoardValue.{BoardValue, opened}
 use Rattle.llb_commands.specs.declared.fault.ProgramFault.{ProgramFault}
 use Rattle.llb_commands.specs.declared.fault.ProgramFault.TheVariants.{Refused, Loading}
 use Rattle.llb_commands.specs.declared.fault.ProgramFault.TheVariants as fault
-use Rattle.llb_work.specs.declared.end.RunFault.{RunFault}
+use Rattle.llb_work.specs.declared.run_end.RunFault.{RunFault}
 use Rattle.llb_model.specs.Program.{Build}
 use Rattle.llb_model.specs.State.{State}
 use Rattle.llb_treetext.specs.TreeText.{tree_text}
@@ -34,9 +34,9 @@ use Rattle.llb_commands.specs.declared.run.Ended.TheVariants as ended
 use Rattle.llb_commands.specs.Assembly.{IsUnread}
 use Rattle.llb_commands.specs.MatchText.{IsOverLimit}
 use Rattle.llb_commands.specs.BoundedReading.{ReadsAll}
-use Rattle.llb_commands.specs.declared.bounded.ReadFault.{ReadFault}
-use Rattle.llb_commands.specs.declared.bounded.ReadFault.TheVariants.{TooLong, Failed, Unending}
-use Rattle.llb_commands.specs.declared.bounded.ReadFault.TheVariants as reading
+use Rattle.llb_commands.specs.declared.bounded_reading.ReadFault.{ReadFault}
+use Rattle.llb_commands.specs.declared.bounded_reading.ReadFault.TheVariants.{TooLong, Failed, Unending}
+use Rattle.llb_commands.specs.declared.bounded_reading.ReadFault.TheVariants as reading
 use Rattle.std.specs.Prelude.{Vec}
 use Rattle.std.specs.Global.{Global}
 use Rattle.std.specs.Io.KnownBytes.{Keeps}

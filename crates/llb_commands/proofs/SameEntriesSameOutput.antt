@@ -10,7 +10,7 @@ use Rattle.llb_asm.specs.ItemLines.{kept}
 use Rattle.llb_asm.specs.TextGrammar.{HasOneAnswer, SpellsEntries}
 use Rattle.llb_loader.specs.Graph.{Numbered}
 use Rattle.llb_loader.specs.UniqueResult.{HasOneAnswerIn}
-use Rattle.llb_loader.specs.LinkResult.{IsGraphOf}
+use Rattle.llb_loader.specs.GraphOfRowsResult.{IsGraphOf}
 use Rattle.llb_loader.specs.LoadResult.{rows_from, IsGraphIn}
 use Rattle.llb_loader.specs.LocalSources.{Local}
 use Rattle.llb_model.specs.State.{State}

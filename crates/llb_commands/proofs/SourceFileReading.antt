@@ -5,7 +5,7 @@ use Rattle.std.proofs.lemmas.List.{drop_more}
 use Rattle.llb_tree.specs.Tree.{TreeMap}
 use Rattle.llb_loader.specs.LocalSources as given
 use Rattle.llb_loader.specs.LocalSources.{with_local}
-use Rattle.llb_commands.specs.declared.words.Local.{Local}
+use Rattle.llb_commands.specs.declared.command_line_words.Local.{Local}
 use Rattle.llb_commands.specs.declared.sources.SourceFault.{SourceFault}
 use Rattle.llb_commands.specs.declared.sources.SourceFault.TheVariants.{Adding}
 use Rattle.llb_treetext.specs.declared.fault.TextFault.{TextFault}

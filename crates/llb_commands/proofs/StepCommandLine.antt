@@ -7,9 +7,9 @@ use Rattle.clap.specs.Words.{Row, Text, fault_of, first_of, one_of, subcommand_o
 use Rattle.clap.specs.declared.error.kind.ErrorKind.TheVariants as kind
 use Rattle.clap.proofs.OnLiterals.{clap_on_literals}
 use Rattle.llb_commands.specs.CommandLine.{llbm_app, IsFile, IsWorkers, Says, local_words, matches_named, name_of, named, number_of}
-use Rattle.llb_commands.specs.declared.words.Command.{Command}
-use Rattle.llb_commands.specs.declared.words.Command.TheVariants.{Run, Show, Step, Assemble, Disassemble}
-use Rattle.llb_commands.specs.declared.words.Line.{Line}
+use Rattle.llb_commands.specs.declared.command_line_words.Command.{Command}
+use Rattle.llb_commands.specs.declared.command_line_words.Command.TheVariants.{Run, Show, Step, Assemble, Disassemble}
+use Rattle.llb_commands.specs.declared.command_line_words.Line.{Line}
 
 abbrev after_step : List Text → List Text
 after_step words = codes "step" ∷ words

@@ -11,7 +11,7 @@ use Rattle.llb_model.specs.Table.{Reply}
 use Rattle.llb_model.specs.Run.{run}
 use Rattle.llb_board.specs.BoardValue.{BoardValue, Replays}
 use Rattle.llb_board.specs.Laws.{SettledArePlain}
-use Rattle.llb_board.specs.Headline.{LockedOnce}
+use Rattle.llb_board.specs.MachinePromise.{LockedOnce}
 use Rattle.llb_stepper.specs.Replies.{RepliesAreRecorded}
 use Rattle.llb_stepper.specs.Records.{RecordIsTheRun, ReplaysOnAStepper}
 use Rattle.llb_stepper.specs.Stepping.{Stepping, PastIsTheRecords, IsReplayed}

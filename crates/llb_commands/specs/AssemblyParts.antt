@@ -6,8 +6,8 @@ use Rattle.llb_ops.specs.Definition.{definition_of}
 use Rattle.llb_asm.specs.DisassembledText.{Formed, AreFormed, AreWorded}
 use Rattle.llb_asm.specs.declared.fault.AsmFault.{AsmFault}
 use Rattle.llb_asm.specs.declared.fault.AsmFault.TheVariants as asm
-use Rattle.llb_commands.specs.declared.bounded.ReadFault.{ReadFault}
-use Rattle.llb_commands.specs.declared.bounded.ReadFault.TheVariants as reading
+use Rattle.llb_commands.specs.declared.bounded_reading.ReadFault.{ReadFault}
+use Rattle.llb_commands.specs.declared.bounded_reading.ReadFault.TheVariants as reading
 use Rattle.llb_commands.specs.declared.disassembling.Written.{Written}
 use Rattle.llb_commands.specs.declared.disassembling.Written.TheVariants as written
 use Rattle.llb_commands.specs.declared.fault.ProgramFault.{ProgramFault}

@@ -2,8 +2,8 @@
 use Rattle.std.specs.Prelude.{◌≡◌, ◌≤◌, ◌<◌, ◌+◌, ℕ, List, length, Option, Result, Ok, Err, IfSome, Vec}
 use Rattle.std.specs.Io.KnownBytes.{Consumes, IsAtEnd}
 use Rattle.std.specs.Global.{Global}
-use Rattle.llb_commands.specs.declared.bounded.ReadFault.{ReadFault}
-use Rattle.llb_commands.specs.declared.bounded.ReadFault.TheVariants.{TooLong, Failed, Unending, Memory}
+use Rattle.llb_commands.specs.declared.bounded_reading.ReadFault.{ReadFault}
+use Rattle.llb_commands.specs.declared.bounded_reading.ReadFault.TheVariants.{TooLong, Failed, Unending, Memory}
 
 -- at most `limit` bytes were read from the input, and what remains of the input is the bytes that follow them
 pub record Took (limit : ℕ) (left left' : Option (List ℕ)) : Type 0 where

@@ -14,14 +14,14 @@ use Rattle.clap.specs.declared.builder.action.ArgAction.TheVariants.{Append, Set
 use Rattle.clap.specs.declared.builder.value_parser.ValueParser.TheVariants.{Signed}
 use Rattle.clap.specs.declared.error.kind.ErrorKind.{ErrorKind}
 use Rattle.clap.specs.declared.error.kind.ErrorKind.TheVariants.{OutOfMemory}
-use Rattle.llb_commands.specs.declared.words.Command.{Command}
-use Rattle.llb_commands.specs.declared.words.Command.TheVariants.{Run, Show, Step, Assemble, Disassemble}
-use Rattle.llb_commands.specs.declared.words.Line.{Line}
-use Rattle.llb_commands.specs.declared.words.Shows.{Shows}
-use Rattle.llb_commands.specs.declared.words.Shows.TheVariants.{Graph, Findings, Plan, Matches, Ops, Agrees, Several}
-use Rattle.llb_commands.specs.declared.words.Local.{Local}
-use Rattle.llb_commands.specs.declared.words.WordsFault.{WordsFault}
-use Rattle.llb_commands.specs.declared.words.WordsFault.TheVariants.{Words, Memory}
+use Rattle.llb_commands.specs.declared.command_line_words.Command.{Command}
+use Rattle.llb_commands.specs.declared.command_line_words.Command.TheVariants.{Run, Show, Step, Assemble, Disassemble}
+use Rattle.llb_commands.specs.declared.command_line_words.Line.{Line}
+use Rattle.llb_commands.specs.declared.command_line_words.Shows.{Shows}
+use Rattle.llb_commands.specs.declared.command_line_words.Shows.TheVariants.{Graph, Findings, Plan, Matches, Ops, Agrees, Several}
+use Rattle.llb_commands.specs.declared.command_line_words.Local.{Local}
+use Rattle.llb_commands.specs.declared.command_line_words.WordsFault.{WordsFault}
+use Rattle.llb_commands.specs.declared.command_line_words.WordsFault.TheVariants.{Words, Memory}
 
 -- `clap`'s description of the program (an app), without commands: it reads the words after the program's name, and has a version but no command `help`
 abbrev pub base_app : App

@@ -20,13 +20,13 @@ use Rattle.llb_commands.specs.HelpPages.{HasPage, TellsWithPage}
 use Rattle.llb_commands.specs.Sources.{Gathers, Reads, TellsSource}
 use Rattle.llb_commands.specs.Stepping.{Steps}
 use Rattle.llb_commands.specs.declared.sources.SourceFault.{SourceFault}
-use Rattle.llb_commands.specs.declared.words.Command.{Command}
-use Rattle.llb_commands.specs.declared.words.Command.TheVariants.{Run, Show, Step, Assemble, Disassemble}
-use Rattle.llb_commands.specs.declared.words.Line.{Line}
-use Rattle.llb_commands.specs.declared.words.Shows.{Shows}
-use Rattle.llb_commands.specs.declared.words.Shows.TheVariants.{Graph, Findings, Plan, Matches, Ops, Agrees}
-use Rattle.llb_commands.specs.declared.words.WordsFault.{WordsFault}
-use Rattle.llb_commands.specs.declared.words.WordsFault.TheVariants.{Words}
+use Rattle.llb_commands.specs.declared.command_line_words.Command.{Command}
+use Rattle.llb_commands.specs.declared.command_line_words.Command.TheVariants.{Run, Show, Step, Assemble, Disassemble}
+use Rattle.llb_commands.specs.declared.command_line_words.Line.{Line}
+use Rattle.llb_commands.specs.declared.command_line_words.Shows.{Shows}
+use Rattle.llb_commands.specs.declared.command_line_words.Shows.TheVariants.{Graph, Findings, Plan, Matches, Ops, Agrees}
+use Rattle.llb_commands.specs.declared.command_line_words.WordsFault.{WordsFault}
+use Rattle.llb_commands.specs.declared.command_line_words.WordsFault.TheVariants.{Words}
 
 -- the bytes of each file, by the file's name, if they are known
 abbrev pub Shelf : Type 0

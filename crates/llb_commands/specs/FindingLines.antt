@@ -10,8 +10,8 @@ use Rattle.llb_findings.specs.Findings.{AreFindingsIn, BeginsAsLoad}
 use Rattle.llb_commands.specs.CallStreams.{Io, Stream, IsKept, IsPartWritten, IsWritten}
 use Rattle.llb_commands.specs.Faults.{fault_line}
 use Rattle.llb_commands.specs.Running.{IsRefusal}
-use Rattle.llb_commands.specs.declared.bounded.ReadFault.{ReadFault}
-use Rattle.llb_commands.specs.declared.bounded.ReadFault.TheVariants as reading
+use Rattle.llb_commands.specs.declared.bounded_reading.ReadFault.{ReadFault}
+use Rattle.llb_commands.specs.declared.bounded_reading.ReadFault.TheVariants as reading
 use Rattle.llb_commands.specs.declared.fault.ProgramFault.{ProgramFault}
 
 -- the line of a fault

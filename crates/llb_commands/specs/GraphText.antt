@@ -1,6 +1,6 @@
 -- How a call that writes a text ends; the text of a graph is that of `llb_session`.
 use Rattle.std.specs.Prelude.{ℕ, List, Bool, true, false, Option, Result}
-use Rattle.llb_wire.specs.Answer as answer
+use Rattle.llb_wire.specs.CallResults as answer
 use Rattle.llb_commands.specs.WrittenPrefix as output
 use Rattle.llb_commands.specs.declared.fault.OutputFault.{OutputFault}
 use Rattle.llb_commands.specs.declared.fault.OutputFault.TheVariants.{Write, Memory}

@@ -7,13 +7,13 @@ use Rattle.clap.specs.declared.error.kind.ErrorKind.{ErrorKind}
 use Rattle.clap.specs.declared.error.kind.ErrorKind.TheVariants.{DisplayHelp, DisplayVersion}
 use Rattle.llb_commands.specs.CommandLine.{Refuses, words_status, words_text}
 use Rattle.llb_commands.specs.Faults.{fault_line}
-use Rattle.llb_commands.specs.declared.pages.TheConstants.{VERSION_PAGE, PROGRAM_PAGE, RUN_PAGE, SHOW_PAGE, STEP_PAGE, ASM_PAGE, DIS_PAGE}
-use Rattle.llb_commands.specs.declared.words.Command.{Command}
-use Rattle.llb_commands.specs.declared.words.Command.TheVariants.{Run, Show, Step, Assemble, Disassemble}
-use Rattle.llb_commands.specs.declared.words.Line.{Line}
-use Rattle.llb_commands.specs.declared.words.Refusal.{Refusal}
-use Rattle.llb_commands.specs.declared.words.WordsFault.{WordsFault}
-use Rattle.llb_commands.specs.declared.words.WordsFault.TheVariants.{Words}
+use Rattle.llb_commands.specs.declared.help_pages.TheConstants.{VERSION_PAGE, PROGRAM_PAGE, RUN_PAGE, SHOW_PAGE, STEP_PAGE, ASM_PAGE, DIS_PAGE}
+use Rattle.llb_commands.specs.declared.command_line_words.Command.{Command}
+use Rattle.llb_commands.specs.declared.command_line_words.Command.TheVariants.{Run, Show, Step, Assemble, Disassemble}
+use Rattle.llb_commands.specs.declared.command_line_words.Line.{Line}
+use Rattle.llb_commands.specs.declared.command_line_words.Refusal.{Refusal}
+use Rattle.llb_commands.specs.declared.command_line_words.WordsFault.{WordsFault}
+use Rattle.llb_commands.specs.declared.command_line_words.WordsFault.TheVariants.{Words}
 
 -- the command with this name; none if no command has the name
 abbrev pub command_named : Text → Option Command

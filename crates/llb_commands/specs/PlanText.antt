@@ -2,7 +2,7 @@
 use Rattle.std.specs.Prelude.{◌≡◌, ◌↔◌, ◌&&◌, ℕ, Bool, true, false, if◌then◌else◌, IsTrue, List, [], ◌++◌, codes, length, slice_index_or}
 use Rattle.std.specs.List.{flat_map, enumerate_from, list_any}
 use Rattle.std.specs.Fmt.{decimal}
-use Rattle.llb_ops.specs.declared.file.Action.{Action}
+use Rattle.llb_ops.specs.declared.file_op.Action.{Action}
 use Rattle.llb_loader.specs.declared.graph.Vertex.{Vertex}
 use Rattle.llb_loader.specs.Graph.{Numbered}
 use Rattle.llb_loader.specs.LoadResult.{IsGraphIn}

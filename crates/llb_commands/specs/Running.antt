@@ -7,15 +7,15 @@ use Rattle.llb_loader.specs.LocalSources.{Local}
 use Rattle.llb_board.specs.BoardValue.{BoardValue, opened}
 use Rattle.llb_model.specs.ConsistentStates.{IsConsistent}
 use Rattle.llb_treetext.specs.TreeText.{tree_text}
-use Rattle.llb_work.specs.declared.end.RunFault.{RunFault}
+use Rattle.llb_work.specs.declared.run_end.RunFault.{RunFault}
 use Rattle.llb_commands.specs.ProgramOutput.{build_of, IsEnd, YieldsNone, YieldsAll, YieldsPart, IsRefused, IsNotRun, DrawsAll, DrawsPart}
 use Rattle.llb_commands.specs.ProgramOutput.{failed_lines}
 use Rattle.llb_commands.specs.Faults.{Tells}
 use Rattle.llb_commands.specs.CallStreams.{Stream, IsKept, IsPartWritten, IsWritten}
 use Rattle.llb_commands.specs.declared.fault.ProgramFault.{ProgramFault}
 use Rattle.llb_commands.specs.declared.fault.ProgramFault.TheVariants.{Refused, MissingLocal, Workers, Loading, Read, Memory, Unread, Assembling, TooLong}
-use Rattle.llb_commands.specs.declared.bounded.ReadFault.{ReadFault}
-use Rattle.llb_commands.specs.declared.bounded.ReadFault.TheVariants as reading
+use Rattle.llb_commands.specs.declared.bounded_reading.ReadFault.{ReadFault}
+use Rattle.llb_commands.specs.declared.bounded_reading.ReadFault.TheVariants as reading
 use Rattle.llb_commands.specs.declared.run.Ended.{Ended}
 use Rattle.llb_commands.specs.declared.run.Ended.TheVariants.{Printed, Failed}
 use Rattle.llb_ops.specs.declared.fault.OpFault.TheVariants.{OverLimit}

@@ -6,7 +6,7 @@ use Rattle.llb_treetext.specs.CallResults.{is_memory}
 use Rattle.llb_treetext.specs.TextGrammar.{Answers, MemoryIsLast}
 use Rattle.llb_loader.specs.LocalSources as given
 use Rattle.llb_loader.specs.LocalSources.{with_local}
-use Rattle.llb_commands.specs.declared.words.Local.{Local}
+use Rattle.llb_commands.specs.declared.command_line_words.Local.{Local}
 use Rattle.llb_commands.specs.Faults.{TellsLine, source_text}
 use Rattle.llb_commands.specs.declared.sources.SourceFault.{SourceFault}
 use Rattle.llb_commands.specs.declared.sources.SourceFault.TheVariants.{Read, TooLong, Text, Reading, Adding}

@@ -14,11 +14,11 @@ ghost use Rattle.llb_commands.specs.AssemblyParts.{EndsIn};
 ghost use Rattle.llb_commands.specs.GraphText.{Gives};
 ghost use Rattle.llb_commands.specs.ProgramOutput.{IsRefused};
 
+use crate::definition_loading::loaded;
 use crate::fault::{OutputFault, ProgramFault, refusal};
-use crate::input::loaded;
 use crate::plan_text::is_marked;
 use crate::text_output::text_over;
-use llb_laws::reads::agreements;
+use llb_laws::agreed_sources::agreements;
 use llb_loader::{Graph, Locals, Vertex};
 use llb_tree::Tree;
 use std::alloc::Global;

@@ -5,7 +5,7 @@ ghost use Rattle.llb_commands.specs.Assembly.{Assembles, IsAssembled, IsNoText};
 ghost use Rattle.llb_commands.specs.AssemblyParts.{assembling_fault, text_unread_as, EndsIn, IsDefinitionIn, IsDefinitionOf};
 ghost use Rattle.llb_commands.specs.WrittenPrefix.{PrintsOut};
 
-use crate::bounded::{LIMIT, READS, ReadFault, read_bounded};
+use crate::bounded_reading::{LIMIT, READS, ReadFault, read_bounded};
 use crate::fault::{OutputFault, ProgramFault, refusal};
 use llb_asm::{AsmFault, assemble};
 use llb_ops::write_definition;

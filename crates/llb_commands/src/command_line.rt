@@ -47,8 +47,8 @@ ghost use Rattle.llb_commands.specs.CommandLine.{
 };
 ghost use Rattle.llb_commands.specs.HelpPages.{IsByWordsWithPage};
 
-use crate::pages::{VERSION, named, named_first, page_for};
-use crate::words::{Command, Line, Local, Refusal, Shows, WordsFault};
+use crate::command_line_words::{Command, Line, Local, Refusal, Shows, WordsFault};
+use crate::help_pages::{VERSION, named, named_first, page_for};
 use clap::error::ErrorKind;
 use clap::{Arg, ArgAction, ArgMatches, Error, value_parser};
 use llb_session::Looks;

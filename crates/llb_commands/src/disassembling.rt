@@ -6,9 +6,9 @@ ghost use Rattle.llb_commands.specs.Assembly.{Describes, Disassembles, IsTextBy,
 ghost use Rattle.llb_commands.specs.AssemblyParts.{entries_fault, AreBy, AreEntriesIn, EndsIn};
 ghost use Rattle.llb_commands.specs.WrittenPrefix.{PrintsOut};
 
-use crate::bounded::{LIMIT, READS, read_bounded};
+use crate::bounded_reading::{LIMIT, READS, read_bounded};
+use crate::definition_loading::unread;
 use crate::fault::{ProgramFault, refusal};
-use crate::input::unread;
 use llb_asm::{AsmFault, describe, disassemble};
 use llb_ops::{Entries, OpFault, read_definition};
 use llb_wire::Over;

@@ -4,9 +4,9 @@ ghost use Rattle.std.specs.Prelude.{◌++◌, Ok, string_bytes};
 ghost use Rattle.llb_commands.specs.FindingLines.{finding_line, found_text, FindsUnread, IsTooLong, FindsIn, Finds, PrintsFound, Lists, ListsIn};
 ghost use Rattle.llb_commands.specs.GraphText.{Gives};
 
-use crate::bounded::{LIMIT, READS, ReadFault, read_bounded};
+use crate::bounded_reading::{LIMIT, READS, ReadFault, read_bounded};
+use crate::definition_loading::unread;
 use crate::fault::{OutputFault, ProgramFault, refusal};
-use crate::input::unread;
 use crate::text_output::text_over;
 use llb_findings::findings;
 use llb_loader::LoadFault;

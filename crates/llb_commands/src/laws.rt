@@ -7,9 +7,9 @@ ghost use Rattle.llb_commands.specs.ProgramOutput.{IsNotRun};
 ghost use Rattle.llb_commands.specs.Assembly.{RunsAlike};
 ghost use Rattle.llb_commands.specs.Running.{IsRefusal};
 
+use crate::board_opening::opened;
+use crate::definition_loading::passed_on;
 use crate::fault::ProgramFault;
-use crate::input::passed_on;
-use crate::opening::opened;
 use llb_asm::one_answer;
 use llb_board::Board;
 use llb_loader::{Graph, Locals, load, one_answer_in};

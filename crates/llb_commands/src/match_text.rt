@@ -16,9 +16,9 @@ ghost use Rattle.llb_commands.specs.MatchText.{
 };
 ghost use Rattle.llb_commands.specs.Running.{IsRefusal, TellsRefusal};
 
-use crate::bounded::{LIMIT, READS, read_bounded};
+use crate::bounded_reading::{LIMIT, READS, read_bounded};
+use crate::definition_loading::{passed_on, unread};
 use crate::fault::{OutputFault, ProgramFault, refusal};
-use crate::input::{passed_on, unread};
 use crate::text_output::text_over;
 use llb_laws::load_matched;
 use llb_loader::Vertex;

@@ -20,11 +20,11 @@ ghost use Rattle.llb_commands.specs.PlanText.{
 };
 ghost use Rattle.llb_commands.specs.ProgramOutput.{IsRefused};
 
+use crate::definition_loading::loaded;
 use crate::fault::{OutputFault, ProgramFault, refusal};
-use crate::input::loaded;
 use crate::text_output::text_over;
-use llb_laws::marks::{bodies_have_mark, body_has_mark, writes_no_mark};
-use llb_laws::plan::{by_value, makes_digest, mounts_cache, some_makes_digest};
+use llb_laws::token_byte_writers::{bodies_have_mark, body_has_mark, writes_no_mark};
+use llb_laws::token_plan::{by_value, makes_digest, mounts_cache, some_makes_digest};
 use llb_loader::{Graph, Vertex};
 use llb_ops::{Action, Kind};
 use std::alloc::Global;

@@ -11,8 +11,8 @@ ghost use Rattle.llb_commands.specs.WrittenPrefix.{PrintsOut};
 ghost use Rattle.llb_commands.specs.CallStreams.{Stream};
 ghost use Rattle.llb_commands.specs.Running.{Answers, Ends, Finishes, IsWhole, Opens, Shows};
 
+use crate::board_opening::open_over;
 use crate::fault::{ProgramFault, refusal};
-use crate::opening::open_over;
 use llb_board::laws::{complete_is_plain, is_consistent};
 use llb_board::{Board, Gate, Status, Stopped};
 use llb_loader::{Edge, Locals};

@@ -6,9 +6,9 @@ ghost use Rattle.llb_session.specs.GraphText.{graph_text};
 ghost use Rattle.llb_commands.specs.WrittenPrefix.{PrintsOut};
 ghost use Rattle.llb_commands.specs.Running.{ShowsIn};
 
+use crate::definition_loading::loaded;
 use crate::fault::{OutputFault, ProgramFault, refusal};
 use crate::graph_text::print_graph;
-use crate::input::loaded;
 use llb_loader::Graph;
 use llb_wire::Over;
 use std::alloc::Global;

@@ -5,8 +5,8 @@ ghost use Rattle.std.specs.Prelude.{◌≡◌, ℕ, List, [], Option, Some, IfOk
 ghost use Rattle.llb_commands.specs.Faults.{source_text};
 ghost use Rattle.llb_commands.specs.Sources.{Adds, Gathers, Reads, TellsSource, source_status, told};
 
-use crate::bounded::{LIMIT, READS, ReadFault, read_bounded};
-use crate::words::Local;
+use crate::bounded_reading::{LIMIT, READS, ReadFault, read_bounded};
+use crate::command_line_words::Local;
 use llb_loader::Locals;
 use llb_tree::Tree;
 use llb_treetext::{TextFault, read_tree};

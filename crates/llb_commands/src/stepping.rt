@@ -5,9 +5,9 @@ ghost use Rattle.llb_loader.specs.LocalSources.{Local};
 ghost use Rattle.llb_commands.specs.Running.{Opens};
 ghost use Rattle.llb_commands.specs.Stepping.{Steps, StepsIn, session_fault, no_looks, only_looks};
 
-use crate::bounded::{LIMIT, READS};
+use crate::board_opening::open_over;
+use crate::bounded_reading::{LIMIT, READS};
 use crate::fault::{OutputFault, ProgramFault, refusal};
-use crate::opening::open_over;
 use llb_board::Board;
 use llb_loader::Locals;
 use llb_session::{Looks, Options, Session, SessionFault, converse};

@@ -16,12 +16,12 @@ use denote.Triple.Carry.{beside, spared}
 use denote.Triple.Spec.{Spec, Meets, triple_of}
 use denote.Triple.Table.{run_framed, widened}
 use Rattle.llb_embed.proofs.KeptMachineValue.{X}
-use Rattle.llb_embed.proofs.held.Held.drop.Symbol as its
-use Rattle.llb_embed.proofs.held.Held.drop.Met as its_met
+use Rattle.llb_embed.proofs.handle_value.Held.drop.Symbol as its
+use Rattle.llb_embed.proofs.handle_value.Held.drop.Met as its_met
 use Rattle.llb_embed.specs.contracts.held.Held.drop as f
 
 abbrev pub held_drops : Dict
-held_drops = impl ("llb_embed::held::Held::drop" ∷ []) tnil dnil
+held_drops = impl ("llb_embed::handle_value::Held::drop" ∷ []) tnil dnil
 
 -- it spends the value, and says nothing
 abbrev c : {M : Type 1} {𝓤 : Ura M} (𝓛 : Logic 𝓤) → Spec 𝓤 f.signature

@@ -5,7 +5,7 @@ use Rattle.std.specs.Global.{Global}
 use Rattle.llb_commands.specs.CallStreams.{Io}
 use Rattle.llb_embed.specs.Handle.{StartsWith, Calls}
 use Rattle.llb_embed.specs.HandleCalls.{EndsBy}
-use Rattle.llb_embed.specs.declared.held.Held.{Held}
+use Rattle.llb_embed.specs.declared.handle_value.Held.{Held}
 
 -- a call takes out the value that it starts with, works on it, and puts it back
 pub calls : (Leads : Held → Held → ℕ → Type 0) (old out : Option Held) (start lent new : Held) (status : ℕ)

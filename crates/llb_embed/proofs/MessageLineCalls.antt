@@ -8,12 +8,12 @@ use Rattle.llb_commands.specs.Running.{TellsRefusal}
 use Rattle.llb_commands.specs.declared.fault.ProgramFault.{ProgramFault}
 use Rattle.llb_commands.proofs.RunOutput.{ends_told}
 use Rattle.llb_session.specs.declared.session.Session.{Session}
-use Rattle.llb_session.specs.Answers.{IsRefused, Quits}
+use Rattle.llb_session.specs.LineReplies.{IsRefused, Quits}
 use Rattle.llb_session.specs.Request.{request_in}
-use Rattle.llb_session.specs.Texts.{fault_line}
+use Rattle.llb_session.specs.PrintedTexts.{fault_line}
 use Rattle.llb_stepper.specs.declared.fault.StepperFault.{StepperFault}
 use Rattle.llb_commands.specs.declared.fault.ProgramFault.TheVariants as problem
-use Rattle.llb_embed.specs.declared.held.Held.{Held}
+use Rattle.llb_embed.specs.declared.handle_value.Held.{Held}
 use Rattle.llb_embed.specs.HandleCalls.{KeepsRest, Refused, Replied, RepliesOn, written}
 
 -- why no session is opened: the line is written, and the status is 2; or the status is 3

@@ -1,6 +1,6 @@
 -- What a handle holds, and how a call changes what the handle holds.
 use Rattle.std.specs.Prelude.{◌≡◌, ℕ, true, if◌then◌else◌, List, [], Option, None, Some}
-use Rattle.llb_embed.specs.declared.held.Held.{Held}
+use Rattle.llb_embed.specs.declared.handle_value.Held.{Held}
 use Rattle.llb_embed.specs.declared.handle.Llb.{Llb}
 use Rattle.llb_embed.specs.KeptPointer.{IsKept}
 

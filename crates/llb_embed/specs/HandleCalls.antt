@@ -6,12 +6,12 @@ use Rattle.llb_loader.specs.LoadResult.{IsGraphIn}
 use Rattle.llb_loader.specs.LocalSources.{with_local}
 use Rattle.llb_stepper.specs.declared.fault.StepperFault.{StepperFault}
 use Rattle.llb_session.specs.declared.session.Session.{Session}
-use Rattle.llb_session.specs.Answers.{Answers, IsRefused, Quits}
+use Rattle.llb_session.specs.LineReplies.{Answers, IsRefused, Quits}
 use Rattle.llb_session.specs.Request.{request_in}
-use Rattle.llb_session.specs.Texts.{fault_line}
+use Rattle.llb_session.specs.PrintedTexts.{fault_line}
 use Rattle.llb_commands.specs.declared.fault.ProgramFault.TheVariants as problem
 use Rattle.llb_commands.specs.declared.sources.SourceFault.{SourceFault}
-use Rattle.llb_commands.specs.declared.words.WordsFault.TheVariants.{Words}
+use Rattle.llb_commands.specs.declared.command_line_words.WordsFault.TheVariants.{Words}
 use Rattle.llb_commands.specs.CallStreams.{Io, Stream}
 use Rattle.llb_commands.specs.ProgramOutput.{Runs, Draws, IsNotRun}
 use Rattle.llb_commands.specs.FindingLines.{Lists}
@@ -23,7 +23,7 @@ use Rattle.llb_commands.specs.CommandLine.{TellsWords}
 use Rattle.llb_commands.specs.Faults.{Tells, TellsWhy}
 use Rattle.llb_commands.specs.Sources.{ReadsTree, TellsSource}
 use Rattle.llb_commands.specs.Stepping.{begun, only_looks}
-use Rattle.llb_embed.specs.declared.held.Held.{Held}
+use Rattle.llb_embed.specs.declared.handle_value.Held.{Held}
 
 -- a stream that was empty before the call, and to which these bytes are written
 abbrev pub written : List ℕ → Stream

@@ -3,8 +3,8 @@
 ghost use Rattle.std.specs.Prelude.{◌≡◌, Some, None, false, true, IsTrue, option_map, MatchOption};
 ghost use Rattle.llb_embed.specs.Handle.{held_in, IsSound, StartsWith};
 
-use crate::held::Held;
-use crate::kept::Kept;
+use crate::handle_value::Held;
+use crate::kept_pointer::Kept;
 use std::alloc::Global;
 use std::mem::replace;
 

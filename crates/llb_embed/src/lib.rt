@@ -19,17 +19,17 @@ ghost use Rattle.llb_embed.specs.Handle.{held_in, messages_in, output_in, Calls,
 ghost use Rattle.llb_embed.specs.HandleCalls.{Added, Opened, Replied, Ran, Shown, Listed, Planned, Matched, Judged, Assembled, Described, Disassembled};
 
 mod handle;
-mod held;
-mod kept;
-mod working;
+mod handle_calls;
+mod handle_value;
+mod kept_pointer;
 
 pub use handle::Llb;
 use handle::{put, start, take};
-use std::alloc::Global;
-use working::{
+use handle_calls::{
     assemble, copy_out, describe, disassemble, list, local, match_old, open, plan, reply, run,
     script, show,
 };
+use std::alloc::Global;
 
 /// The status if memory for the value that a handle holds was refused.
 const NO_MEMORY: u8 = 3;

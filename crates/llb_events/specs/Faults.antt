@@ -1,7 +1,7 @@
 -- The text after the word `fault` when a board refuses an event: the number of the fault, and for 135 the ID of the held key. The `Gives..` definitions say
 -- what contracts promise of the call for an event: the call returns what the table returns, or it fails for want of memory.
 use Rattle.std.specs.Prelude.{ℕ, Bool, true, false, List, ◌++◌, Result, Ok, Err, codes}
-use Rattle.llb_wire.specs.Answer as answer
+use Rattle.llb_wire.specs.CallResults as answer
 use Rattle.llb_cache.specs.Key.{has_text}
 use Rattle.llb_events.specs.declared.refusal.ClaimFault.{ClaimFault}
 use Rattle.llb_events.specs.declared.refusal.ClaimFault.TheVariants as claim

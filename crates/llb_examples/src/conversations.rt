@@ -1,10 +1,10 @@
 //! Tests sessions: the bounds on a session's input, and that each line gets its reply before the next line is read. The stepper's board has one worker, and one
 //! vertex, which makes a file.
 
-use super::graphs::ONE_FILE;
-use super::printed::{is_so, row_holds};
-use super::sessions::{LIMIT, READS};
-use super::written::board_of;
+use super::board_definitions::ONE_FILE;
+use super::boards_from_texts::board_of;
+use super::stories::{LIMIT, READS};
+use super::tree_rows::{is_so, row_holds};
 use llb_session::{Looks, Options, Session, SessionFault, converse};
 use llb_stepper::Stepper;
 use std::alloc::Global;

@@ -1,9 +1,9 @@
 //! Tests of what a copy reads of the tree that it copies from: what is at and below its path, or at and below each path that matches its pattern. So a build in
 //! which the source has changed elsewhere ends alike.
 
+use super::boards_from_texts::{graph_from, locals_of};
 use super::fileop::action_in;
-use super::printed::{row_holds, say, say_fault, say_tree};
-use super::written::{graph_from, locals_of};
+use super::tree_rows::{row_holds, say, say_fault, say_tree};
 use llb_fileop::act;
 use llb_laws::copies::{agree_below, agree_for, copies_alike, reads_end_alike};
 use llb_loader::{Graph, Locals};

@@ -1,9 +1,9 @@
 //! Tests the texts of faults that the program does not print, or not so. In a refusal of the program, the word `fault` is before such a text. All other faults
 //! are tested elsewhere: in the module `loader`, and by commands and sessions in the repository's folder `tests`.
 
-use super::graphs::IN_A_ROW;
-use super::printed::prints;
-use super::written::graph_from;
+use super::board_definitions::IN_A_ROW;
+use super::boards_from_texts::graph_from;
+use super::tree_rows::prints;
 use llb_applet::ScriptFault;
 use llb_board::{ClaimFault, OpenFault, StepFault};
 use llb_cache::Caches;

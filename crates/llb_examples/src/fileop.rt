@@ -2,7 +2,7 @@
 //! (`tests/actions`).
 
 use super::ops::{COPY, MAKES_A};
-use super::printed::{is_same, say, say_fault, say_path, say_tree};
+use super::tree_rows::{is_same, say, say_fault, say_path, say_tree};
 use llb_fileop::{ActFault, act, resolve};
 use llb_ops::{Action, Kind, Op, read_op};
 use llb_tree::Tree;

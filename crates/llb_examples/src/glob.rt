@@ -1,6 +1,6 @@
 //! Calls of patterns that no path shows. Which paths match a pattern, and which texts are no patterns, is tested by the program (`tests/patterns`).
 
-use super::printed::holds;
+use super::tree_rows::holds;
 use llb_glob::{Pattern, PatternFault};
 use std::alloc::Global;
 

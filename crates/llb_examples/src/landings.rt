@@ -1,10 +1,10 @@
 //! Work on jobs away from the board: the outcome of the work, gates that stop the work, and the boards on which the outcome lands.
 
-use super::calls::{are_done, are_same, copy_of, landed, worked};
+use super::board_calls::{are_done, are_same, copy_of, landed, worked};
+use super::board_definitions::TWO_FILES;
+use super::boards_from_texts::board_of;
 use super::gates::Open;
-use super::graphs::TWO_FILES;
-use super::printed::{is_so, row_holds};
-use super::written::board_of;
+use super::tree_rows::{is_so, row_holds};
 use llb_board::{Board, Event, Gate, Outcome, Status, Stopped};
 use std::alloc::Global;
 use std::process::Abort;

@@ -3,28 +3,26 @@
 #![tactic(auto)]
 
 #[cfg(test)]
-mod alike;
+mod board_calls;
+#[cfg(test)]
+mod board_definitions;
+#[cfg(test)]
+mod boards_from_texts;
+#[cfg(test)]
+mod cache_instances;
+#[cfg(test)]
+mod cache_keys;
 #[cfg(test)]
 #[cfg(test)]
-mod cache;
+mod cache_leases;
 #[cfg(test)]
-mod calling;
-#[cfg(test)]
-mod calls;
-#[cfg(test)]
-mod chain;
-#[cfg(test)]
-mod checks;
+mod calling_page;
 #[cfg(test)]
 mod conversations;
 #[cfg(test)]
 mod copies;
 #[cfg(test)]
-mod crew;
-#[cfg(test)]
-mod crowds;
-#[cfg(test)]
-mod farm;
+mod equal_boards;
 #[cfg(test)]
 mod faults;
 #[cfg(test)]
@@ -34,25 +32,25 @@ mod gates;
 #[cfg(test)]
 mod glob;
 #[cfg(test)]
-mod graphs;
+mod idle_crowds;
 #[cfg(test)]
-mod instances;
-#[cfg(test)]
-mod keeping;
-#[cfg(test)]
-mod keys;
+mod kept_outputs;
 #[cfg(test)]
 mod landings;
 #[cfg(test)]
-mod leases;
+mod lease_transcripts;
+#[cfg(test)]
+mod library_transcripts;
 #[cfg(test)]
 mod loader;
 #[cfg(test)]
+mod longest_chain;
+#[cfg(test)]
 mod many_files;
 #[cfg(test)]
-mod merge;
+mod many_threads;
 #[cfg(test)]
-mod midway;
+mod merge;
 #[cfg(test)]
 mod mount;
 #[cfg(test)]
@@ -64,36 +62,38 @@ mod openings;
 #[cfg(test)]
 mod ops;
 #[cfg(test)]
+mod orders_of_two_workers;
+#[cfg(test)]
 mod overlay;
 #[cfg(test)]
-mod plain;
-#[cfg(test)]
-mod printed;
+mod plain_outcomes;
 #[cfg(test)]
 mod queue;
 #[cfg(test)]
-mod records;
+mod running_boards;
 #[cfg(test)]
-mod sessions;
+mod runs_taken_back;
 #[cfg(test)]
-mod sharing;
+mod shared_nodes;
 #[cfg(test)]
-mod stage;
+mod stories;
+#[cfg(test)]
+mod thread_records;
 #[cfg(test)]
 mod tokens;
 #[cfg(test)]
 mod tree;
 #[cfg(test)]
-mod trees;
+mod tree_calls;
+#[cfg(test)]
+mod tree_rows;
 #[cfg(test)]
 mod treetext;
 #[cfg(test)]
 mod two_definitions;
 #[cfg(test)]
-mod walks;
+mod two_threads;
 #[cfg(test)]
 mod wire;
 #[cfg(test)]
-mod workers;
-#[cfg(test)]
-mod written;
+mod worker_stories;

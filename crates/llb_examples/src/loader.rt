@@ -1,7 +1,7 @@
 //! Tests `link`, which makes a graph of rows, or refuses the rows, and `findings_of`, which finds every fault of rows. The digest of a row may be any text
 //! here. Rows are written as `DIGEST = NAME`, with `; ` between rows; NAME is the name of an entry of `llb_samples`.
 
-use super::printed::{is_same, prints, say};
+use super::tree_rows::{is_same, prints, say};
 use llb_findings::findings_of;
 use llb_loader::{Graph, LoadFault, Row, link};
 use llb_ops::Entries;

@@ -1,7 +1,7 @@
 //! Tests that a change of a tree does not change its copies, on a tree of a thousand files. Trees are compared by their whole texts.
 
 use super::overlay::copied;
-use super::printed::{dir, file, is_so, made, put, say};
+use super::tree_rows::{dir, file, is_so, made, put, say};
 use super::treetext::printed;
 use llb_tree::{Tree, TreeFault};
 use std::alloc::Global;

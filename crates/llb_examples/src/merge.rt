@@ -2,7 +2,7 @@
 //! is tested by whole commands (`tests/merges`).
 
 use super::overlay::lent;
-use super::printed::{is_same, prints, sample, tree_text};
+use super::tree_rows::{is_same, prints, sample, tree_text};
 use llb_merge::{Memory, at_each_path, over_itself, over_the_empty_tree, under_the_empty_tree};
 use llb_tree::Tree;
 use std::alloc::Global;

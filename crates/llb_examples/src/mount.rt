@@ -2,8 +2,8 @@
 //! its tree. A story has some steps and a line of text: the result of each step, the mounts after the steps, a bar, and the
 //! mounts of a copy of the view that was made before the steps.
 
-use super::printed::{file, holds, is_same, made, prints, row_holds, say, say_names, say_path};
 use super::tree::path_of;
+use super::tree_rows::{file, holds, is_same, made, prints, row_holds, say, say_names, say_path};
 use llb_mount::{Many, Memory, Path, ReadOnly, Shown, Tree, View};
 use std::alloc::Global;
 use std::process::Abort;

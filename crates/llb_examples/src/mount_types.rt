@@ -1,6 +1,6 @@
 //! Tests the numbers that the types of mounts have in a definition.
 
-use super::printed::is_so;
+use super::tree_rows::is_so;
 use llb_loader::MountType;
 
 #[test]

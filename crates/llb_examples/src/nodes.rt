@@ -1,8 +1,8 @@
 //! Tests the nodes of a tree, walks through a tree, and how many names a path may have so that a given tree fits below the
 //! path.
 
-use super::printed::{is_same, row_holds, sample, say, say_node, say_path, say_tree};
 use super::tree::{deep_tree, path_with};
+use super::tree_rows::{is_same, row_holds, sample, say, say_node, say_path, say_tree};
 use llb_tree::{Node, Path, Tree, TreeFault, Walk};
 use std::alloc::Global;
 use std::process::Abort;

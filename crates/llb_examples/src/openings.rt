@@ -1,15 +1,15 @@
 //! Tests what a board takes when it is opened, what a refused opening returns, and which caches a board leaves for the next
 //! board. That a local tree is missing is tested where the program prints the tree's name (`tests/sources`).
 
-use super::calls::{are_done, opened};
-use super::checks::is_answered;
-use super::graphs::D_ON_SECOND;
-use super::instances::{K_LOCKED, K_SHARED};
-use super::printed::{is_so, row_holds};
-use super::written::{CacheRow, board_of, graph_from, needs_of};
+use super::board_calls::{are_done, opened};
+use super::board_definitions::D_ON_SECOND;
+use super::boards_from_texts::{CacheRow, board_of, graph_from, needs_of};
+use super::cache_instances::{K_LOCKED, K_SHARED};
+use super::tree_rows::{is_so, row_holds};
+use super::worker_stories::is_answered;
 use llb_board::{Board, OpenFault};
 use llb_cache::{Caches, Many};
-use llb_laws::names::caches_have_names;
+use llb_laws::trees_with_names::caches_have_names;
 use llb_loader::Locals;
 use llb_samples::OLD_AND_F;
 use std::alloc::Global;

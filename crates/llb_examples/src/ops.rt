@@ -1,7 +1,7 @@
 //! Tests of reading and writing entries and definitions. An op that was read is checked by its canonical bytes, which are the bytes that `write_op` returns
 //! for the op. The fields of ops are tested by whole commands (`tests/assembling/messages.md`).
 
-use super::printed::{holds, is_so, row_holds};
+use super::tree_rows::{holds, is_so, row_holds};
 use llb_ops::{
     Entries, FileOp, Kind, MessageName, Op, OpFault, definition_is_read_again, entry_has_fields,
     field_named, field_numbered, fields_of, op_is_read_again, read_definition, read_op,

@@ -1,7 +1,7 @@
 //! Tests of laying one tree over another with an `OverlaySettings`, which sets modes and owners. What a merge lays is tested by the program (`tests/merges`).
 
-use super::printed::{holds, is_so, row_holds, sample};
-use super::stage::are_transcripts;
+use super::library_transcripts::are_transcripts;
+use super::tree_rows::{holds, is_so, row_holds, sample};
 use llb_merge::{lay, lay_onto, lay_over};
 use llb_tree::{OverlaySettings, Tree};
 use llb_wire::Same;

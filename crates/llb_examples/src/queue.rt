@@ -3,7 +3,7 @@
 ghost use Rattle.llb_ready.specs.PassKnowledge.{SamePart};
 ghost use Rattle.llb_ready.specs.QueuePasses.{IsReadyPassOf, hand_of};
 
-use super::printed::{is_same, is_so};
+use super::tree_rows::{is_same, is_so};
 use llb_ready::{Full, ReadyFault, ReadyPass, ReadyQueue};
 use std::sync::Wait;
 

@@ -2,13 +2,13 @@
 //! and whether the first stand for the others. If they do, the run on the tokens is done to its end, and its result is in the row too. Other rows have other
 //! contents, and whether the run on the tokens serves them.
 
-use super::checks::say_tree;
-use super::printed::row_holds;
-use super::walks::finish;
-use super::written::{graph_from, locals_of};
+use super::boards_from_texts::{graph_from, locals_of};
+use super::runs_taken_back::finish;
+use super::tree_rows::row_holds;
+use super::worker_stories::say_tree;
 use llb_board::Board;
 use llb_cache::Caches;
-use llb_laws::on_tokens::{
+use llb_laws::boards_on_tokens::{
     have_tokens, open_on_tokens, serves_other_contents, stands_for_contents,
 };
 use llb_wire::Bytes;

@@ -1,7 +1,7 @@
 //! Tests of names, paths and trees.
 
-use super::printed::{Row, file, holds, is_same, is_so, made, repeated, row_holds, say_path};
-use super::stage::are_transcripts;
+use super::library_transcripts::are_transcripts;
+use super::tree_rows::{Row, file, holds, is_same, is_so, made, repeated, row_holds, say_path};
 use llb_tree::{Meta, Name, Path, Tree, TreeFault};
 use llb_wire::Same;
 use std::alloc::Global;

@@ -1,7 +1,7 @@
 //! Tests of the text of a tree: the text is printed, hashed to the tree's digest, and read back. Which texts are read, and which fault others have, is tested
 //! by the program (`tests/sources/tree-texts.md`).
 
-use super::printed::{file, holds, is_same, is_so, made, prints};
+use super::tree_rows::{file, holds, is_same, is_so, made, prints};
 use llb_tree::Tree;
 use llb_treetext::{TextFault, one_answer, print_tree, read_tree, reads_back, tree_digest};
 use llb_wire::{Over, Same, Text};

@@ -3,8 +3,8 @@
 //! in the first graph, and its number in the second; or, for each vertex of the second graph that has a partner in the first, both numbers; or how many
 //! vertices the graphs of a definition and of a part of it, or of its renaming, have.
 
-use super::sessions::{StoryKind, are_stories, wanted};
-use super::written::definition_from;
+use super::boards_from_texts::definition_from;
+use super::stories::{StoryKind, are_stories, wanted};
 use llb_laws::{load_both, load_matched, load_part, load_renamed};
 use llb_loader::{Graph, LoadFault, Vertex};
 use llb_wire::{Bytes, Text, read_hex};

@@ -1,6 +1,6 @@
 //! Tests of `llb_wire`: numbers, records, texts and lists, and writers that fail.
 
-use super::printed::{holds, is_same, is_so, prints, row_holds};
+use super::tree_rows::{holds, is_same, is_so, prints, row_holds};
 use llb_wire::{
     Bytes, Failed, Field, Many, Over, Same, Sink, Text, Wire, WireFault, is_hex, magnitude,
     next_record, push_hex, read_hex, text_of_digest, varint, write_all, write_record, write_varint,

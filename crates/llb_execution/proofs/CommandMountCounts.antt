@@ -8,12 +8,12 @@ use Rattle.llb_tree.specs.Tree as tree
 use Rattle.llb_tree.specs.Tree.{Entry, TreeMap, MetaValue, new_dir_meta, put_file, put_dir, remove, is_dir}
 use Rattle.llb_tree.specs.declared.fault.TreeFault.{TreeFault}
 use Rattle.llb_mount.specs.View.{mount_at, with_tree_of}
-use Rattle.llb_applet.specs.declared.setting.Setting.{Setting}
-use Rattle.llb_applet.specs.declared.spot.Spot.{Spot}
+use Rattle.llb_applet.specs.declared.directory_and_variables.Setting.{Setting}
+use Rattle.llb_applet.specs.declared.path_in_mount.Spot.{Spot}
 use Rattle.llb_applet.specs.declared.command.Command.{Command}
 use Rattle.llb_applet.specs.declared.command.Command.TheVariants as command
-use Rattle.llb_applet.specs.ViewSpots.{Mounts, spot_of, file_in, tree_at, entry_at, dirs_below, is_dest}
-use Rattle.llb_applet.specs.ViewSpots.{with_change, with_file, without_spot, with_new_dir, with_dirs}
+use Rattle.llb_applet.specs.PathsInMounts.{Mounts, spot_of, file_in, tree_at, entry_at, dirs_below, is_dest}
+use Rattle.llb_applet.specs.PathsInMounts.{with_change, with_file, without_spot, with_new_dir, with_dirs}
 use Rattle.llb_applet.specs.Commands.{path_by, spot_by, file_by, meta_there, writes, line, target_of, copied, joined, with_mode, is_kind, listing_by, run, left}
 
 -- the view after a command, if there is one, has as many mounts as the view before

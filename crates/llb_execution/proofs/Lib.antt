@@ -1,4 +1,4 @@
-pub mod Crossing
+pub mod ThreadTransfers
 pub mod Lists
 pub mod ExecViews
 pub mod CommandMountCounts

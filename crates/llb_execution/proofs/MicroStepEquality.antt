@@ -2,9 +2,9 @@
 use Rattle.std.proofs.Common.{◌≡◌, ◌↔◌, IsTrue, ℕ, zero, suc, ℤ, ◌==◌, Bool, true, false, List, [], ◌∷◌, length, map, drop, Option, Some, None}
 use Rattle.std.proofs.Common.{refl, sym, ap, ◌∙◌, ne_eqb, arith}
 use Rattle.std.specs.Prelude.{slice_get}
-use Rattle.llb_applet.specs.declared.join.Joined.{Joined}
-use Rattle.llb_applet.specs.declared.setting.Setting.{Setting}
-use Rattle.llb_ops.specs.declared.file.Action.{Action}
+use Rattle.llb_applet.specs.declared.joined_commands.Joined.{Joined}
+use Rattle.llb_applet.specs.declared.directory_and_variables.Setting.{Setting}
+use Rattle.llb_ops.specs.declared.file_op.Action.{Action}
 use Rattle.llb_ops.specs.declared.merge.MergeInput.{MergeInput}
 use Rattle.llb_model.specs.Program.{MicroStep, Act, LayInput, Run, all_and, runs_of}
 

@@ -5,11 +5,11 @@ use Rattle.std.proofs.lemmas.Bool.{false≢true}
 use Rattle.llb_fileop.specs.FileActions.{act}
 use Rattle.llb_fileop.specs.CallResults.{Gives, is_memory}
 use Rattle.llb_fileop.specs.declared.fault.ActFault.{ActFault}
-use Rattle.llb_ops.specs.declared.file.Action.{Action}
+use Rattle.llb_ops.specs.declared.file_op.Action.{Action}
 use Rattle.llb_tree.specs.Tree.{TreeMap}
-use Rattle.llb_mount.specs.declared.shown.Shown.{Shown}
-use Rattle.llb_applet.specs.declared.setting.Setting.{Setting}
-use Rattle.llb_applet.specs.declared.join.Joined.{Joined}
+use Rattle.llb_mount.specs.declared.shown_tree.Shown.{Shown}
+use Rattle.llb_applet.specs.declared.directory_and_variables.Setting.{Setting}
+use Rattle.llb_applet.specs.declared.joined_commands.Joined.{Joined}
 use Rattle.llb_applet.specs.Commands.{run, status_of, left as left_of}
 use Rattle.llb_events.specs.declared.fault.VertexFault.{VertexFault}
 use Rattle.llb_events.specs.declared.fault.VertexFault.TheVariants as fault

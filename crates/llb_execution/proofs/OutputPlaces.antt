@@ -6,11 +6,11 @@ use Rattle.std.specs.List.{range_with_len}
 use Rattle.std.proofs.lemmas.List.{drop_all, append-nil, length_push}
 use Rattle.std.proofs.lemmas.Bool.{eq-eqb, ne_eqb}
 use Rattle.std.proofs.lemmas.Option.{slice_get_within, get_or_from_slice_get}
-use Rattle.llb_ops.specs.declared.file.Action.{Action}
+use Rattle.llb_ops.specs.declared.file_op.Action.{Action}
 use Rattle.llb_tree.specs.Tree.{TreeMap, empty_tree}
-use Rattle.llb_mount.specs.declared.shown.Shown.{Shown}
-use Rattle.llb_applet.specs.declared.setting.Setting.{Setting}
-use Rattle.llb_applet.specs.declared.join.Joined.{Joined}
+use Rattle.llb_mount.specs.declared.shown_tree.Shown.{Shown}
+use Rattle.llb_applet.specs.declared.directory_and_variables.Setting.{Setting}
+use Rattle.llb_applet.specs.declared.joined_commands.Joined.{Joined}
 use Rattle.llb_ops.specs.declared.op.Kind.{Kind}
 use Rattle.llb_ops.specs.declared.op.Kind.TheVariants as kind
 use Rattle.llb_ops.specs.declared.merge.MergeInput.{MergeInput}

@@ -5,9 +5,9 @@ use Rattle.std.proofs.Math.Seq.{take-append_seam}
 use Rattle.std.proofs.lemmas.List.{take_all}
 use Rattle.llb_fileop.specs.declared.fault.ActFault.{ActFault}
 use Rattle.llb_tree.specs.Tree.{TreeMap}
-use Rattle.llb_mount.specs.declared.shown.Shown.{Shown}
-use Rattle.llb_applet.specs.declared.join.Joined.{Joined}
-use Rattle.llb_applet.specs.declared.setting.Setting.{Setting}
+use Rattle.llb_mount.specs.declared.shown_tree.Shown.{Shown}
+use Rattle.llb_applet.specs.declared.joined_commands.Joined.{Joined}
+use Rattle.llb_applet.specs.declared.directory_and_variables.Setting.{Setting}
 use Rattle.llb_applet.specs.Commands.{run}
 use Rattle.llb_model.specs.Program.{ReadLocal, Act, LayInput, Run, Workspace, LocalTree, Files, Layers, Mounted, micro_step, tried}
 use Rattle.llb_model.specs.Program.{trees_in, with_tree, act_among, with_result, lay_on, filled, is_run, no_fault, ran, run_on}

@@ -6,7 +6,7 @@ use Rattle.std.proofs.lemmas.Bool.{eqb-true, eqb-false, cases_lt}
 use Rattle.std.proofs.lemmas.List.{drop_all}
 use Rattle.std.proofs.lemmas.Option.{slice_get-map, slice_get-get_or, slice_get_past, slice_get_within}
 use Rattle.llb_tree.specs.Tree.{TreeMap}
-use Rattle.llb_mount.specs.declared.shown.Shown.{Shown}
+use Rattle.llb_mount.specs.declared.shown_tree.Shown.{Shown}
 use Rattle.llb_mount.specs.View.{mount_at, with_tree_of}
 use Rattle.llb_model.specs.Program.{filled}
 use Rattle.llb_model.proofs.Lists.{get_set_same, get_set_other, get_within, length_map, length_set}

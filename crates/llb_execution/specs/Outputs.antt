@@ -2,7 +2,7 @@
 use Rattle.std.specs.Prelude.{ℕ, ℤ, pos, negsuc, Option, Some, None, List, [], ◌∷◌, map, slice_set, if◌then◌else◌}
 use Rattle.llb_ops.specs.declared.op.Kind.{Kind}
 use Rattle.llb_ops.specs.declared.op.Kind.TheVariants as kind
-use Rattle.llb_ops.specs.declared.file.Action.{Action}
+use Rattle.llb_ops.specs.declared.file_op.Action.{Action}
 use Rattle.llb_tree.specs.Tree.{TreeMap, empty_tree}
 use Rattle.llb_model.specs.Program.{is_output}
 

@@ -1,11 +1,11 @@
 -- A saved copy of what a micro-step can change in a workspace. It is made before the micro-step, and put back to undo the micro-step.
 use Rattle.std.specs.Prelude.{◌≡◌, ℕ, List, length, take, Option}
-use Rattle.llb_mount.specs.declared.shown.Shown.{Shown}
+use Rattle.llb_mount.specs.declared.shown_tree.Shown.{Shown}
 use Rattle.llb_tree.specs.Tree.{TreeMap}
 use Rattle.llb_model.specs.Program.{MicroStep, Workspace, LocalTree, Files, Layers, Mounted, step_on}
 use Rattle.llb_execution.specs.ModelValues.{work_with}
-use Rattle.llb_execution.specs.declared.saved.StateBefore.{StateBefore}
-use Rattle.llb_execution.specs.declared.saved.StateBefore.TheVariants as was
+use Rattle.llb_execution.specs.declared.saved_workspace.StateBefore.{StateBefore}
+use Rattle.llb_execution.specs.declared.saved_workspace.StateBefore.TheVariants as was
 
 -- a saved copy: for a source nothing, for a file op how many results there are, for a merge what is laid, for an exec its mounts and the last status
 pub data Saved : Type 0 where

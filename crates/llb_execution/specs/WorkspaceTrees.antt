@@ -1,12 +1,12 @@
 -- The trees that a workspace works on, in a fixed order, and what each is there (`Role`). A caller that shows a workspace reads its trees by these definitions.
 use Rattle.std.specs.Prelude.{ℕ, ◌+◌, ◌==◌, List, [], ◌∷◌, ◌++◌, map, Option, Some, None, slice_get, if◌then◌else◌}
 use Rattle.llb_tree.specs.Tree.{TreeMap}
-use Rattle.llb_mount.specs.declared.shown.Shown.{Shown}
+use Rattle.llb_mount.specs.declared.shown_tree.Shown.{Shown}
 use Rattle.llb_model.specs.Program.{Workspace, LocalTree, Files, Layers, Mounted, filled}
-use Rattle.llb_execution.specs.declared.look.Look.{Look}
-use Rattle.llb_execution.specs.declared.look.Look.TheVariants as look
-use Rattle.llb_execution.specs.declared.look.Part.{Part}
-use Rattle.llb_execution.specs.declared.look.Part.TheVariants as part
+use Rattle.llb_execution.specs.declared.workspace_trees.Look.{Look}
+use Rattle.llb_execution.specs.declared.workspace_trees.Look.TheVariants as look
+use Rattle.llb_execution.specs.declared.workspace_trees.Part.{Part}
+use Rattle.llb_execution.specs.declared.workspace_trees.Part.TheVariants as part
 
 -- the tree of a mount
 abbrev pub shown_tree : Shown → TreeMap

@@ -1,6 +1,6 @@
 //! Why a job has no outcome. A fault prints its number.
 
-use crate::gate::Stopped;
+use crate::worker_gate::Stopped;
 use llb_wire::Memory;
 use thiserror::Error;
 

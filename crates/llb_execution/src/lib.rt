@@ -15,35 +15,35 @@
 //!     Some(settled)
 #![tactic(auto)]
 
+mod commands_on_caches;
+mod exec_mounts;
 mod fault;
-mod filling;
-mod further;
-mod gate;
-mod gathering;
+mod input_trees;
 mod job;
-mod look;
 mod micro_step;
-mod mounting;
 mod outcome;
 mod outputs;
 mod program;
+mod remaining_micro_steps;
 mod same;
-mod saved;
+mod saved_workspace;
 mod steps;
+mod worker_gate;
 mod workspace;
+mod workspace_trees;
 
+pub use commands_on_caches::empty_trees;
+pub use exec_mounts::{input_tree, mounts_cache};
 pub use fault::WorkFault;
-pub use filling::empty_trees;
-pub use further::{Further, do_further};
-pub use gate::{Gate, Stopped};
-pub use gathering::{Outputs, gathered};
+pub use input_trees::{Outputs, gathered};
 pub use job::Job;
 pub use llb_wire::Memory;
-pub use look::{Look, Part};
 pub use micro_step::MicroStep;
-pub use mounting::{input_tree, mounts_cache};
 pub use outcome::{Outcome, work};
 pub use program::Program;
-pub use saved::Saved;
+pub use remaining_micro_steps::{Further, do_further};
+pub use saved_workspace::Saved;
 pub use steps::Steps;
+pub use worker_gate::{Gate, Stopped};
 pub use workspace::Workspace;
+pub use workspace_trees::{Look, Part};

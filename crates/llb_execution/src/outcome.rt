@@ -6,9 +6,9 @@ ghost use Rattle.llb_execution.specs.Jobs.{IsOutcome};
 ghost use Rattle.llb_execution.specs.declared.fault.WorkFault.TheVariants as work;
 
 use crate::fault::WorkFault;
-use crate::further::{Further, do_further};
-use crate::gate::Gate;
 use crate::job::Job;
+use crate::remaining_micro_steps::{Further, do_further};
+use crate::worker_gate::Gate;
 use crate::workspace::{Workspace, tree_copies};
 use llb_events::VertexFault;
 use llb_tree::Tree;

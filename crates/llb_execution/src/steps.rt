@@ -6,8 +6,8 @@ ghost use Rattle.llb_model.specs.Program.{LayInput, runs_of, program_of, steps_o
 ghost use Rattle.llb_ops.specs.declared.merge.MergeInput as merge_input;
 ghost use Rattle.llb_execution.specs.ModelValues.{step_in, steps_in};
 
+use crate::exec_mounts::setting_with;
 use crate::micro_step::{MicroStep, act_at, lay_at, read_at, run_at};
-use crate::mounting::setting_with;
 use llb_applet::{Script, Setting};
 use llb_loader::Vertex;
 use llb_ops::{Actions, Kind, MergeInput};

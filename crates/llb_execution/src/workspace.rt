@@ -16,9 +16,9 @@ ghost use Rattle.llb_execution.specs.SavedWorkspaces.{put_back, Results, Laid};
 ghost use Rattle.llb_execution.specs.SavedWorkspaces as saves;
 ghost use Rattle.llb_execution.specs.ModelValues.{step_in, own_of, work_with, left_with, is_skipped, mounts_in, shown_in};
 
-use crate::filling::run_filled;
+use crate::commands_on_caches::run_filled;
+use crate::exec_mounts::{input_tree, view_of};
 use crate::micro_step::MicroStep;
-use crate::mounting::{input_tree, view_of};
 use crate::outputs::outputs_of;
 use llb_applet::{Join, Joined, Setting};
 use llb_events::VertexFault;

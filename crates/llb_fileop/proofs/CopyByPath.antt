@@ -3,12 +3,12 @@ use Rattle.std.proofs.Common.{◌≡◌, ℕ, Bool, true, false, cond, ◌⊎◌
 use Rattle.std.proofs.Common.{subst, ◌∙◌, inl, inr, arith, length-append}
 use Rattle.std.specs.Ordering.{eq_by_cmp}
 use Rattle.std.specs.FinMap as finite
-use Rattle.llb_wire.specs.Answer.{◌>>=◌}
+use Rattle.llb_wire.specs.CallResults.{◌>>=◌}
 use Rattle.llb_wire.proofs.RuleComposition.{bind_ok}
 use Rattle.llb_ops.specs.declared.actions.CopyFile.{CopyFile}
 use Rattle.llb_tree.specs.Path.{path_cmp, is_within}
 use Rattle.llb_tree.specs.PathOrder.{path_cmp-IsTotalOrder, same_path}
-use Rattle.llb_tree.specs.Meta.{MetaValue, new_dir_meta}
+use Rattle.llb_tree.specs.ModeAndOwner.{MetaValue, new_dir_meta}
 use Rattle.llb_tree.specs.Tree.{TreeMap, Entry, Dir, File, tree_at, parents, walk, dir_fits}
 use Rattle.llb_fileop.specs.Owners.{copied}
 use Rattle.llb_fileop.specs.Making.{kept_or_made, make_all}

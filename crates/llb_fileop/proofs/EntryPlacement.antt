@@ -4,7 +4,7 @@ use Rattle.std.proofs.Common.{None, Result, Ok, Err, refl, sym, ap, ◌∙◌, a
 use Rattle.std.proofs.lemmas.Bool.{lt-ltb, le-ltb, ltb-false}
 use Rattle.std.specs.Prelude.{slice_get, nat_lt}
 use Rattle.std.specs.FinMap as finite
-use Rattle.llb_wire.specs.Answer.{◌>>=◌}
+use Rattle.llb_wire.specs.CallResults.{◌>>=◌}
 use Rattle.llb_tree.specs.Path.{is_within}
 use Rattle.llb_tree.specs.Tree.{TreeMap, Entry, moved, places_fit, IsTree}
 use Rattle.llb_tree.specs.declared.fault.TreeFault.{TreeFault}

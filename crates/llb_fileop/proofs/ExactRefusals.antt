@@ -6,16 +6,16 @@ use Rattle.std.specs.Result.{result_ok}
 use Rattle.std.specs.Ordering.{eq_by_cmp}
 use Rattle.std.specs.FinMap as finite
 use Rattle.std.proofs.lemmas.List.{append-nil}
-use Rattle.llb_wire.specs.Answer.{◌>>=◌}
-use Rattle.llb_ops.specs.declared.file.ActionKind.{ActionKind}
-use Rattle.llb_ops.specs.declared.file.ActionKind.TheVariants as kind
+use Rattle.llb_wire.specs.CallResults.{◌>>=◌}
+use Rattle.llb_ops.specs.declared.file_op.ActionKind.{ActionKind}
+use Rattle.llb_ops.specs.declared.file_op.ActionKind.TheVariants as kind
 use Rattle.llb_ops.specs.declared.actions.CopyFile.{CopyFile}
 use Rattle.llb_ops.specs.declared.actions.Rm.{Rm}
 use Rattle.llb_tree.specs.declared.fault.TreeFault.{TreeFault}
 use Rattle.llb_tree.specs.declared.fault.TreeFault.TheVariants as fault
 use Rattle.llb_tree.specs.Path.{path_cmp, is_name, is_dot, is_dots, name_of, below, enter, follow, parts_of, path_of}
 use Rattle.llb_tree.specs.PathOrder.{path_cmp-IsTotalOrder, same_path}
-use Rattle.llb_tree.specs.Meta.{MetaValue, new_dir_meta}
+use Rattle.llb_tree.specs.ModeAndOwner.{MetaValue, new_dir_meta}
 use Rattle.llb_tree.specs.Tree as tree
 use Rattle.llb_tree.specs.Tree.{TreeMap, Entry, parents, all_dirs, walk, file_fits, dir_fits, not_root, put_file, put_dir, moved, found, IsDirAt}
 use Rattle.llb_tree.proofs.GraftedTrees.{walk_joined}

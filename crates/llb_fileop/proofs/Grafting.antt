@@ -7,11 +7,11 @@ use Rattle.std.specs.Prelude.{slice_get}
 use Rattle.std.specs.Ordering.{eq_by_cmp}
 use Rattle.std.specs.FinMap as finite
 use Rattle.std.specs.FinMap.Entries.{below_all}
-use Rattle.llb_wire.specs.Answer.{◌>>=◌}
+use Rattle.llb_wire.specs.CallResults.{◌>>=◌}
 use Rattle.llb_wire.proofs.RuleComposition.{bind_ok}
 use Rattle.llb_tree.specs.Path.{path_cmp, is_within}
 use Rattle.llb_tree.specs.PathOrder.{path_cmp-IsTotalOrder, path_cmp-IsAntisymmetric, same_path}
-use Rattle.llb_tree.specs.Meta.{MetaValue, new_dir_meta}
+use Rattle.llb_tree.specs.ModeAndOwner.{MetaValue, new_dir_meta}
 use Rattle.llb_tree.specs.Tree.{TreeMap, Entry, Dir, File, moved, with_tree, graft, subtree, tree_at, dir_there, places_fit, parents}
 use Rattle.llb_tree.specs.Tree.{all_dirs, walk, dir_fits, file_fits, not_root, put_dir, IsDirAt, IsTree, is_dir}
 use Rattle.llb_tree.specs.declared.fault.TreeFault.{TreeFault}

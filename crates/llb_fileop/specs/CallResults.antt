@@ -1,6 +1,6 @@
 -- How a call's result follows the call's rule (the definition of what the call returns), and how faults of paths, trees and patterns become faults of actions.
 use Rattle.std.specs.Prelude.{Bool, true, false, Result, Ok, Err}
-use Rattle.llb_wire.specs.Answer as answer
+use Rattle.llb_wire.specs.CallResults as answer
 use Rattle.llb_tree.specs.declared.fault.TreeFault.{TreeFault}
 use Rattle.llb_tree.specs.declared.fault.TreeFault.TheVariants as tree
 use Rattle.llb_glob.specs.declared.fault.PatternFault.{PatternFault}

@@ -3,7 +3,7 @@ use Rattle.std.specs.Prelude.{◌≡◌, ℕ, zero, negsuc, Bool, true, false, L
 use Rattle.std.specs.FinMap as finite
 use Rattle.llb_ops.specs.declared.actions.CopyFile.{CopyFile}
 use Rattle.llb_tree.specs.Path.{is_within}
-use Rattle.llb_tree.specs.Meta.{MetaValue, new_dir_meta}
+use Rattle.llb_tree.specs.ModeAndOwner.{MetaValue, new_dir_meta}
 use Rattle.llb_tree.specs.Tree.{TreeMap, Dir, File}
 use Rattle.llb_fileop.specs.Owners.{copied}
 use Rattle.llb_fileop.specs.Copying.{target, copy_one}

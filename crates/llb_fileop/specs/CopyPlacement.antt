@@ -1,9 +1,9 @@
 -- Parts of the rule by which copied entries are put into a tree: whether each can be put at its path, and what is at each path after a directory is merged in.
 use Rattle.std.specs.Prelude.{◌≡◌, ℕ, ◌+◌, nat_lt, List, [], ◌∷◌, length, Option, Some, None, Result, Ok, Err, if◌then◌else◌}
 use Rattle.std.specs.FinMap as finite
-use Rattle.llb_wire.specs.Answer.{◌>>=◌}
+use Rattle.llb_wire.specs.CallResults.{◌>>=◌}
 use Rattle.llb_tree.specs.Tree.{TreeMap, Entry, Dir, File, walk, put_file, put_dir}
-use Rattle.llb_tree.specs.Meta.{MetaValue}
+use Rattle.llb_tree.specs.ModeAndOwner.{MetaValue}
 use Rattle.llb_tree.specs.declared.fault.TreeFault.{TreeFault}
 use Rattle.llb_tree.specs.declared.fault.TreeFault.TheVariants.{BadName}
 use Rattle.llb_fileop.specs.Copying.{meets, landed, land, fits}

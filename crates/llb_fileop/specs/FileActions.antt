@@ -1,7 +1,7 @@
 -- The tree after a file action, or the first fault.
 use Rattle.std.specs.Prelude.{Option, Some, None, Result, Ok}
-use Rattle.llb_ops.specs.declared.file.ActionKind.{ActionKind}
-use Rattle.llb_ops.specs.declared.file.ActionKind.TheVariants as kind
+use Rattle.llb_ops.specs.declared.file_op.ActionKind.{ActionKind}
+use Rattle.llb_ops.specs.declared.file_op.ActionKind.TheVariants as kind
 use Rattle.llb_tree.specs.Tree.{TreeMap}
 use Rattle.llb_fileop.specs.declared.fault.ActFault.{ActFault}
 use Rattle.llb_fileop.specs.CallResults.{on_tree}

@@ -1,12 +1,12 @@
 -- The tree after a file or a directory is made, or the first fault.
 use Rattle.std.specs.Prelude.{Bool, true, false, List, [], ◌∷◌, ◌++◌, ℕ, Option, Some, None, Result, Ok, Err}
 use Rattle.std.specs.FinMap as finite
-use Rattle.llb_wire.specs.Answer.{◌>>=◌}
+use Rattle.llb_wire.specs.CallResults.{◌>>=◌}
 use Rattle.llb_ops.specs.declared.actions.MkFile as file
 use Rattle.llb_ops.specs.declared.actions.MkDir as dir
 use Rattle.llb_tree.specs.Path.{path_of}
 use Rattle.llb_tree.specs.Tree.{TreeMap, Entry, Dir, File, parents, put_file, put_dir}
-use Rattle.llb_tree.specs.Meta.{MetaValue}
+use Rattle.llb_tree.specs.ModeAndOwner.{MetaValue}
 use Rattle.llb_tree.specs.declared.fault.TreeFault.{TreeFault}
 use Rattle.llb_tree.specs.declared.fault.TreeFault.TheVariants.{NotDir}
 use Rattle.llb_fileop.specs.Owners.{made}

@@ -4,7 +4,7 @@ use Rattle.llb_ops.specs.declared.owners.ChownOpt.{ChownOpt}
 use Rattle.llb_ops.specs.declared.owners.UserOpt.{UserOpt}
 use Rattle.llb_ops.specs.declared.owners.User.{User}
 use Rattle.llb_ops.specs.declared.owners.User.TheVariants.{ByName, ById}
-use Rattle.llb_tree.specs.Meta.{MetaValue}
+use Rattle.llb_tree.specs.ModeAndOwner.{MetaValue}
 
 -- the low 12 bits of a number in two's complement
 abbrev pub mode_of : ℤ → ℕ

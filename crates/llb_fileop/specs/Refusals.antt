@@ -3,8 +3,8 @@
 use Rattle.std.specs.Prelude.{ℕ, Bool, false, nat_lt, List, [], ◌∷◌, length, map, Option, Some, None, Result, Ok, Err, if◌then◌else◌}
 use Rattle.std.specs.Result.{result_ok}
 use Rattle.std.specs.FinMap as finite
-use Rattle.llb_ops.specs.declared.file.ActionKind.{ActionKind}
-use Rattle.llb_ops.specs.declared.file.ActionKind.TheVariants as kind
+use Rattle.llb_ops.specs.declared.file_op.ActionKind.{ActionKind}
+use Rattle.llb_ops.specs.declared.file_op.ActionKind.TheVariants as kind
 use Rattle.llb_ops.specs.declared.actions.MkFile as file
 use Rattle.llb_ops.specs.declared.actions.MkDir as dir
 use Rattle.llb_ops.specs.declared.actions.CopyFile.{CopyFile}

@@ -1,7 +1,7 @@
 //! The mode and the owner of what an action makes or copies.
 
 ghost use Rattle.std.specs.Prelude.{◌≡◌, ◌≤◌, ℕ, true, unwrap_or};
-ghost use Rattle.llb_tree.specs.Meta.{MetaValue};
+ghost use Rattle.llb_tree.specs.ModeAndOwner.{MetaValue};
 ghost use Rattle.llb_tree.specs.Overlay.{is_mode, laid_meta};
 ghost use Rattle.llb_fileop.specs.Owners.{mode_of, mode_from, number_in, id_in, user_in, group_in, made, copied};
 

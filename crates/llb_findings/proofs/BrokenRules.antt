@@ -11,9 +11,9 @@ use Rattle.llb_ops.specs.declared.op.Kind.TheVariants.{Exec, Source, File, Merge
 use Rattle.llb_ops.specs.declared.exec.ExecOp.{ExecOp}
 use Rattle.llb_ops.specs.declared.exec.Meta.{Meta}
 use Rattle.llb_ops.specs.declared.source.SourceOp.{SourceOp}
-use Rattle.llb_ops.specs.declared.file.FileOp.{FileOp}
+use Rattle.llb_ops.specs.declared.file_op.FileOp.{FileOp}
 use Rattle.llb_ops.specs.declared.merge.MergeOp.{MergeOp}
-use Rattle.llb_applet.specs.declared.join.Joined.{Joined}
+use Rattle.llb_applet.specs.declared.joined_commands.Joined.{Joined}
 use Rattle.llb_applet.specs.declared.fault.ScriptFault.{ScriptFault}
 use Rattle.llb_applet.specs.Scripts.{script_of}
 use Rattle.llb_loader.specs.declared.fault.Rule.{Rule}

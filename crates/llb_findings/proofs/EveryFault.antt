@@ -4,10 +4,10 @@ use Rattle.llb_loader.specs.declared.row.Row.{Row}
 use Rattle.llb_loader.specs.declared.fault.LoadFault.{LoadFault}
 use Rattle.llb_loader.specs.declared.fault.LoadFault.TheVariants.{TooFew, NoResult, UnknownDigest, Cycle, Unsupported, Invalid, BadIndex, Collision}
 use Rattle.llb_loader.specs.RowLookup.{AllSame, Collides, RefusesCollision}
-use Rattle.llb_loader.specs.BareRows.{with_bytes, bytes_of}
+use Rattle.llb_loader.specs.RowsWithoutBytes.{with_bytes, bytes_of}
 use Rattle.llb_loader.specs.Features.{features}
 use Rattle.llb_loader.specs.Rules.{rules_on}
-use Rattle.llb_loader.specs.Linking.{Plan, op_at, IsApart}
+use Rattle.llb_loader.specs.GraphOfRows.{Plan, op_at, IsApart}
 use Rattle.llb_findings.specs.Findings.{plan_for, IsAsked, IsFaultIn, at_inputs, entry_faults, collisions, unknown_digests, unsupported, invalid, bad_indexes}
 use Rattle.llb_findings.specs.Findings.{linked_faults, possible}
 use Rattle.llb_findings.specs.Selections.{AreThose, Adds}

@@ -17,11 +17,11 @@ use Rattle.llb_loader.specs.Numbering.{HasCycle, rank_in}
 use Rattle.llb_loader.specs.RowLookup.{AllSame, Collides, row_named}
 use Rattle.llb_loader.specs.Features.{has, features, feature_of}
 use Rattle.llb_loader.specs.Rules.{IsBelow, MeetsRules, Breaks, rules_on, output_count}
-use Rattle.llb_loader.specs.Linking.{Plan, plan_of, op_at, input_at, links_in, input_row, ReachedRow, HasInput, IsUnknown, IsBadIndex}
-use Rattle.llb_loader.specs.Linking.{IsApart, HasResult, IsStarted, IsNamed, IsOrdered, IsSupported, IsValid, IsWhole, Foremost, Refuses}
+use Rattle.llb_loader.specs.GraphOfRows.{Plan, plan_of, op_at, input_at, links_in, input_row, ReachedRow, HasInput, IsUnknown, IsBadIndex}
+use Rattle.llb_loader.specs.GraphOfRows.{IsApart, HasResult, IsStarted, IsNamed, IsOrdered, IsSupported, IsValid, IsWhole, Foremost, Refuses}
 use Rattle.llb_loader.specs.Graph.{Numbered}
 use Rattle.llb_loader.specs.RowReading.{IsUnread}
-use Rattle.llb_loader.specs.LinkResult.{IsGraphOf, IsRefusalOf}
+use Rattle.llb_loader.specs.GraphOfRowsResult.{IsGraphOf, IsRefusalOf}
 use Rattle.llb_findings.specs.Selections.{AreThose, joined_below}
 use Rattle.llb_findings.specs.Findings.{fault_or_none, reading_at, plan_for, IsAsked}
 use Rattle.llb_findings.specs.Findings.{IsFaultIn, at_inputs, entry_faults, collisions, unknown_digests, unsupported, invalid, bad_indexes, linked_faults}

@@ -8,7 +8,7 @@ use Rattle.llb_loader.specs.declared.row.Row.{Row}
 use Rattle.llb_loader.specs.declared.fault.LoadFault.{LoadFault}
 use Rattle.llb_loader.specs.declared.fault.LoadFault.TheVariants.{Definition}
 use Rattle.llb_loader.specs.Faults.{definition_fault}
-use Rattle.llb_loader.specs.LinkResult.{IsGraphOf}
+use Rattle.llb_loader.specs.GraphOfRowsResult.{IsGraphOf}
 use Rattle.llb_loader.specs.LoadResult.{rows_from}
 use Rattle.llb_findings.specs.Findings.{AreFindings, BeginsAsLink, AreFindingsIn, BeginsAsLoad}
 

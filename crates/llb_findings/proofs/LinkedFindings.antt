@@ -15,14 +15,14 @@ use Rattle.llb_loader.specs.ReachedRows.{lists, Reached}
 use Rattle.llb_loader.specs.Numbering.{IsNumbering, HasCycle, rank_in}
 use Rattle.llb_loader.specs.WaitingRows.{IsMarked}
 use Rattle.llb_loader.specs.RowLookup.{IsTerminal, terminal_in, row_named, graph_of}
-use Rattle.llb_loader.specs.Linking.{op_at, input_at, input_row, links_in, IsStarted}
+use Rattle.llb_loader.specs.GraphOfRows.{op_at, input_at, input_row, links_in, IsStarted}
 use Rattle.llb_findings.specs.Findings.{ops_in, plan_for, IsFaultIn, unknown_digests, unsupported, invalid, bad_indexes, linked_faults}
 use Rattle.llb_findings.specs.FindingSteps.{AreReadMarks, AreReached, HasTerminal, start_by, start_for}
 use Rattle.llb_findings.specs.Selections.{Adds}
 use Rattle.llb_findings.proofs.OpsAndRules.{ops_len}
 use Rattle.llb_findings.proofs.SelectionParts.{one_not, one_here, adds_both, adds_if}
 use Rattle.llb_loader.proofs.OpAndInputReads.{op_read}
-use Rattle.llb_loader.proofs.LinkedRowRefusals.{graph_len}
+use Rattle.llb_loader.proofs.RefusalsOfRows.{graph_len}
 use Rattle.llb_loader.proofs.UniqueNumbering.{numbering_down}
 
 all_false : (n k : ℕ) → get_or (replicate n false) k false ≡ false

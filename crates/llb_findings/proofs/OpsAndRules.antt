@@ -20,7 +20,7 @@ use Rattle.llb_loader.specs.declared.fault.Rule.TheVariants as rule
 use Rattle.llb_loader.specs.RowLookup.{row_at}
 use Rattle.llb_loader.specs.Features.{has, features, feature_of}
 use Rattle.llb_loader.specs.Rules.{Meets, MeetsAll, MeetsRules, Breaks, kind_fault, rules_on}
-use Rattle.llb_loader.specs.Linking.{op_at}
+use Rattle.llb_loader.specs.GraphOfRows.{op_at}
 use Rattle.llb_loader.specs.RowReading.{AreOps}
 use Rattle.llb_findings.specs.Findings.{op_or_none, reading_at, ops_in, IsCounted, HasWords, IsLookedAt}
 use Rattle.llb_findings.specs.Findings.{IsBroken}

@@ -15,7 +15,7 @@ use Rattle.llb_loader.specs.declared.row.Row.{Row}
 use Rattle.llb_loader.specs.declared.fault.LoadFault.{LoadFault}
 use Rattle.llb_loader.specs.declared.fault.LoadFault.TheVariants.{Entry, Collision, UnknownDigest, BadIndex, Unsupported, Invalid}
 use Rattle.llb_loader.specs.Features.{has, features}
-use Rattle.llb_loader.specs.Linking.{op_at, input_at, HasResult}
+use Rattle.llb_loader.specs.GraphOfRows.{op_at, input_at, HasResult}
 use Rattle.llb_loader.specs.RowLookup.{IsTerminal, terminal_in, row_named}
 use Rattle.llb_findings.specs.Findings.{op_or_none, fault_or_none, ops_in, plan_for, reading_at, entry_at, entry_faults, IsAsked, IsBroken}
 use Rattle.llb_findings.specs.Findings.{IsCounted, IsFaultIn}

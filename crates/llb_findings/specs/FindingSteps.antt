@@ -14,7 +14,7 @@ use Rattle.llb_loader.specs.Features.{has, features}
 use Rattle.llb_loader.specs.Rules.{rules_on, output_count}
 use Rattle.llb_loader.specs.RowLookup.{IsTerminal, terminal_in, row_named}
 use Rattle.llb_loader.specs.WaitingRows.{IsMarked}
-use Rattle.llb_loader.specs.Linking.{IsApart, IsStarted, ReachedRow, op_at, input_at}
+use Rattle.llb_loader.specs.GraphOfRows.{IsApart, IsStarted, ReachedRow, op_at, input_at}
 use Rattle.llb_findings.specs.Findings.{ops_in, plan_for, reading_at, at_inputs, IsBroken, IsCounted}
 use Rattle.llb_loader.specs.declared.fault.Rule.{Rule}
 use Rattle.llb_findings.specs.Selections.{AreThose}

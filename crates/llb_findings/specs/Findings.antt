@@ -20,9 +20,9 @@ use Rattle.llb_loader.specs.RowLookup.{row_at, AllSame, Collides}
 use Rattle.llb_loader.specs.Numbering.{HasCycle}
 use Rattle.llb_loader.specs.Features.{has, features}
 use Rattle.llb_loader.specs.Rules.{IsBelow, AreOutputs, HasWord, Meets, kind_fault, rules_on, outputs_of, mount_outputs, output_count}
-use Rattle.llb_loader.specs.Linking.{Plan, plan_of, op_at, input_at, links_in, input_row, ReachedRow, HasInput, IsApart, HasResult, IsStarted}
+use Rattle.llb_loader.specs.GraphOfRows.{Plan, plan_of, op_at, input_at, links_in, input_row, ReachedRow, HasInput, IsApart, HasResult, IsStarted}
 use Rattle.llb_loader.specs.Graph.{Numbered}
-use Rattle.llb_loader.specs.LinkResult.{IsGraphOf, IsRefusalOf}
+use Rattle.llb_loader.specs.GraphOfRowsResult.{IsGraphOf, IsRefusalOf}
 use Rattle.llb_loader.specs.LoadResult.{rows_from, IsGraphIn, IsRefusalIn}
 use Rattle.llb_findings.specs.Selections.{AreThose, joined_below}
 

@@ -8,7 +8,7 @@ ghost use Rattle.llb_ops.specs.Faults as ops;
 ghost use Rattle.llb_ops.specs.OpsWithinLimits.{IsWithinLimits};
 ghost use Rattle.llb_loader.specs.Faults.{is_memory, definition_fault};
 ghost use Rattle.llb_loader.specs.RowLookup.{IsIndex, AreFirsts, Collides};
-ghost use Rattle.llb_loader.specs.Linking.{IsApart, links_in};
+ghost use Rattle.llb_loader.specs.GraphOfRows.{IsApart, links_in};
 ghost use Rattle.llb_loader.specs.LoadResult.{rows_from};
 ghost use Rattle.llb_findings.specs.Findings.{AreFindings, BeginsAsLink, AreFindingsIn, BeginsAsLoad, IsFaultIn, plan_for, ops_in, possible, linked_faults};
 ghost use Rattle.llb_findings.specs.FindingSteps.{AreReadMarks, AreReached, HasTerminal, start_by, start_for};
@@ -19,9 +19,9 @@ use crate::row_findings::{
     counts_of,
 };
 use llb_loader::digest::digest_of;
-use llb_loader::linking::{bytes_of, link};
+use llb_loader::graph_of_rows::{bytes_of, link};
 use llb_loader::numbering::number;
-use llb_loader::reach::reached;
+use llb_loader::reached_rows::reached;
 use llb_loader::row_lookup::{all_same, index_of, links_of, row_of, terminal_of};
 use llb_loader::{LoadFault, Row};
 use llb_ops::{Bytes, Op, OpFault, read_definition};

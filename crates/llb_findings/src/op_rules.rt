@@ -16,12 +16,14 @@ ghost use Rattle.llb_findings.specs.Selections.{AreThose, Adds};
 use llb_applet::{ScriptFault, read_script};
 use llb_loader::Rule;
 use llb_loader::cache_mounts::caches_apart;
+use llb_loader::exec_paths::{
+    all_there, cwd_reads, dests_apart, dests_of, has_root, selectors_read,
+};
 use llb_loader::exec_rules::{
     all_have_options, all_known, all_shared, all_show, are_mount_outputs,
 };
 use llb_loader::file_rules::{outputs_of, take_inputs};
 use llb_loader::indices::are_outputs;
-use llb_loader::paths::{all_there, cwd_reads, dests_apart, dests_of, has_root, selectors_read};
 use llb_loader::rules::all_merged;
 use llb_ops::{ExecOp, FileOp, Input, Kind, MergeOp, Meta, Op, SourceOp};
 use llb_wire::Memory;

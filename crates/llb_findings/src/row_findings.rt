@@ -10,7 +10,7 @@ ghost use Rattle.llb_loader.specs.declared.fault.LoadFault.TheVariants as fault;
 ghost use Rattle.llb_loader.specs.RowLookup.{IsIndex, row_named, Collides};
 ghost use Rattle.llb_loader.specs.Features.{has, features};
 ghost use Rattle.llb_loader.specs.Rules.{IsBelow};
-ghost use Rattle.llb_loader.specs.Linking.{op_at};
+ghost use Rattle.llb_loader.specs.GraphOfRows.{op_at};
 ghost use Rattle.llb_findings.specs.Findings.{ops_in, plan_for, op_or_none, IsFaultIn, IsCounted, entry_faults, collisions};
 ghost use Rattle.llb_findings.specs.Findings.{unknown_digests, unsupported, invalid};
 ghost use Rattle.llb_findings.specs.Findings.{bad_indexes, at_inputs};

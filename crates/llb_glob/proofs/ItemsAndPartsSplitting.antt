@@ -3,11 +3,11 @@ use Rattle.std.proofs.Common.{◌≡◌, ℕ, suc, ◌+◌, ◌<◌, ◌≤◌, 
 use Rattle.std.proofs.Common.{option_to_list, Result, Ok, Err, is_ok, refl, sym, ap, ◌∙◌, append_assoc, add-one, drop-cons}
 use Rattle.std.proofs.lemmas.List.{drop_all}
 use Rattle.std.specs.Str.{chars}
-use Rattle.llb_wire.specs.Answer.{◌>>=◌}
+use Rattle.llb_wire.specs.CallResults.{◌>>=◌}
 use Rattle.llb_glob.specs.declared.fault.PatternFault.{PatternFault}
 use Rattle.llb_glob.specs.declared.item.Item.{Item}
-use Rattle.llb_glob.specs.declared.cursor.Cursor.{Cursor}
-use Rattle.llb_glob.specs.declared.cursor.Effect.{Effect}
+use Rattle.llb_glob.specs.declared.part_reading.Cursor.{Cursor}
+use Rattle.llb_glob.specs.declared.part_reading.Effect.{Effect}
 use Rattle.llb_glob.specs.ClassValue.{ClassValue}
 use Rattle.llb_glob.specs.Class.{none_yet}
 use Rattle.llb_glob.specs.ItemReading.{cut, item_by, class_by, behind, is_whole, ended, items_from, items_of}

@@ -2,15 +2,15 @@
 use Rattle.std.proofs.Common.{◌≡◌, ◌≢◌, ℕ, ◌<◌, Bool, true, false, List, [], ◌∷◌, ◌++◌, length, Result, Ok}
 use Rattle.std.proofs.Common.{refl, sym, ap, ◌∙◌, inl, inr, subst, append_assoc, append-nil, ne_eqb, arith}
 use Rattle.std.proofs.lemmas.Bool.{cases_eq}
-use Rattle.llb_wire.specs.Answer.{◌>>=◌}
+use Rattle.llb_wire.specs.CallResults.{◌>>=◌}
 use Rattle.llb_glob.specs.declared.fault.PatternFault.{PatternFault}
 use Rattle.llb_glob.specs.declared.class.Span.{Span}
 use Rattle.llb_glob.specs.declared.item.Item.{Item}
 use Rattle.llb_glob.specs.declared.item.Item.TheVariants.{Run, One}
 use Rattle.llb_glob.specs.declared.item.Letter.TheVariants.{Any, Only, In}
-use Rattle.llb_glob.specs.declared.cursor.Stage.{Stage}
-use Rattle.llb_glob.specs.declared.cursor.Stage.TheVariants.{Outside, Opened, Caret, Single, Dash, Range}
-use Rattle.llb_glob.specs.declared.cursor.Effect.TheVariants.{Whole, Add, Extend}
+use Rattle.llb_glob.specs.declared.part_reading.Stage.{Stage}
+use Rattle.llb_glob.specs.declared.part_reading.Stage.TheVariants.{Outside, Opened, Caret, Single, Dash, Range}
+use Rattle.llb_glob.specs.declared.part_reading.Effect.TheVariants.{Whole, Add, Extend}
 use Rattle.llb_glob.specs.ClassValue.{ClassValue}
 use Rattle.llb_glob.specs.Class.{none_yet, one_alone, extended}
 use Rattle.llb_glob.specs.ItemReading.{at, start, cut, behind, items_from}

@@ -8,11 +8,11 @@ use Rattle.llb_glob.specs.declared.class.Span.{Span}
 use Rattle.llb_glob.specs.declared.item.Item.{Item}
 use Rattle.llb_glob.specs.declared.item.Item.TheVariants.{Run, One}
 use Rattle.llb_glob.specs.declared.item.Letter.TheVariants.{Any, Only, In}
-use Rattle.llb_glob.specs.declared.cursor.Stage.{Stage}
-use Rattle.llb_glob.specs.declared.cursor.Stage.TheVariants.{Outside, Opened, Caret, Single, Dash, Range}
-use Rattle.llb_glob.specs.declared.cursor.Cursor.{Cursor}
-use Rattle.llb_glob.specs.declared.cursor.Effect.{Effect}
-use Rattle.llb_glob.specs.declared.cursor.Effect.TheVariants.{Nothing, Whole, Exclude}
+use Rattle.llb_glob.specs.declared.part_reading.Stage.{Stage}
+use Rattle.llb_glob.specs.declared.part_reading.Stage.TheVariants.{Outside, Opened, Caret, Single, Dash, Range}
+use Rattle.llb_glob.specs.declared.part_reading.Cursor.{Cursor}
+use Rattle.llb_glob.specs.declared.part_reading.Effect.{Effect}
+use Rattle.llb_glob.specs.declared.part_reading.Effect.TheVariants.{Nothing, Whole, Exclude}
 use Rattle.llb_glob.specs.ClassValue.{ClassValue}
 use Rattle.llb_glob.specs.Class.{none_yet, one_alone}
 use Rattle.llb_glob.specs.ItemReading.{at, start, literal, outside, closed, dashed, inside, plain, quoted, cut, item_by, class_by, is_whole, ended, items_from}

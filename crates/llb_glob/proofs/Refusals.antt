@@ -2,13 +2,13 @@
 use Rattle.std.proofs.Common.{◌≡◌, ℕ, ◌==◌, Bool, true, false, cond, List, [], ◌∷◌, Result, Ok, Err, is_ok, refl, ap, sym}
 use Rattle.std.proofs.lemmas.Bool.{false≢true}
 use Rattle.std.specs.Str.{chars}
-use Rattle.llb_wire.specs.Answer.{◌>>=◌}
+use Rattle.llb_wire.specs.CallResults.{◌>>=◌}
 use Rattle.llb_tree.specs.declared.fault.TreeFault.{TreeFault}
 use Rattle.llb_glob.specs.declared.fault.PatternFault.{PatternFault}
 use Rattle.llb_glob.specs.declared.fault.PatternFault.TheVariants.{BadPattern}
-use Rattle.llb_glob.specs.declared.cursor.Stage.{Stage}
-use Rattle.llb_glob.specs.declared.cursor.Stage.TheVariants.{Outside, Opened, Caret, Single, Dash, Range}
-use Rattle.llb_glob.specs.declared.cursor.Cursor.{Cursor}
+use Rattle.llb_glob.specs.declared.part_reading.Stage.{Stage}
+use Rattle.llb_glob.specs.declared.part_reading.Stage.TheVariants.{Outside, Opened, Caret, Single, Dash, Range}
+use Rattle.llb_glob.specs.declared.part_reading.Cursor.{Cursor}
 use Rattle.llb_glob.specs.ClassValue.{ClassValue}
 use Rattle.llb_glob.specs.Class.{none_yet}
 use Rattle.llb_glob.specs.ItemReading.{start, closed, dashed, inside, plain, quoted, cut, class_by, is_whole, ended, items_from, items_of}

@@ -1,6 +1,6 @@
 -- A call of this crate returns the result of its rule, which is a definition, or it fails with `Memory`.
 use Rattle.std.specs.Prelude.{Bool, true, false, Result}
-use Rattle.llb_wire.specs.Answer as answer
+use Rattle.llb_wire.specs.CallResults as answer
 use Rattle.llb_tree.specs.declared.fault.TreeFault.{TreeFault}
 use Rattle.llb_tree.specs.declared.fault.TreeFault.TheVariants as tree
 use Rattle.llb_glob.specs.declared.fault.PatternFault.{PatternFault}

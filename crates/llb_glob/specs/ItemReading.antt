@@ -1,17 +1,17 @@
 -- How the characters of a part are read as items, once from left to right. What a character does to the part that is read (`Effect`) depends on the stage
 -- of the reader, and on whether a `\` quotes the character. The grammar in PatternGrammar does not depend on this reading.
 use Rattle.std.specs.Prelude.{ℕ, ◌==◌, Bool, true, false, not, ◌&&◌, if◌then◌else◌, List, [], ◌∷◌, ◌++◌, Option, Some, None, option_to_list, Result, Ok, Err}
-use Rattle.llb_wire.specs.Answer.{◌>>=◌}
+use Rattle.llb_wire.specs.CallResults.{◌>>=◌}
 use Rattle.llb_glob.specs.declared.fault.PatternFault.{PatternFault}
 use Rattle.llb_glob.specs.declared.fault.PatternFault.TheVariants.{BadPattern}
 use Rattle.llb_glob.specs.declared.item.Item.{Item}
 use Rattle.llb_glob.specs.declared.item.Item.TheVariants.{Run, One}
 use Rattle.llb_glob.specs.declared.item.Letter.TheVariants.{Any, Only, In}
-use Rattle.llb_glob.specs.declared.cursor.Stage.{Stage}
-use Rattle.llb_glob.specs.declared.cursor.Stage.TheVariants.{Outside, Opened, Caret, Single, Dash, Range}
-use Rattle.llb_glob.specs.declared.cursor.Cursor.{Cursor}
-use Rattle.llb_glob.specs.declared.cursor.Effect.{Effect}
-use Rattle.llb_glob.specs.declared.cursor.Effect.TheVariants.{Nothing, Whole, Exclude, Add, Extend, Close}
+use Rattle.llb_glob.specs.declared.part_reading.Stage.{Stage}
+use Rattle.llb_glob.specs.declared.part_reading.Stage.TheVariants.{Outside, Opened, Caret, Single, Dash, Range}
+use Rattle.llb_glob.specs.declared.part_reading.Cursor.{Cursor}
+use Rattle.llb_glob.specs.declared.part_reading.Effect.{Effect}
+use Rattle.llb_glob.specs.declared.part_reading.Effect.TheVariants.{Nothing, Whole, Exclude, Add, Extend, Close}
 use Rattle.llb_glob.specs.ClassValue.{ClassValue}
 use Rattle.llb_glob.specs.Class.{none_yet, one_alone, extended}
 

@@ -13,14 +13,14 @@
 #![tactic(auto)]
 
 mod class;
-mod cursor;
 mod fault;
 mod item;
 mod laws;
-mod letters;
+mod name_characters;
 mod part;
+mod part_reading;
 mod pattern;
-mod places;
+mod position_sets;
 
 pub use fault::PatternFault;
 pub use laws::{reads_by_the_grammar, reads_without_classes};

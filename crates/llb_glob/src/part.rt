@@ -8,11 +8,11 @@ ghost use Rattle.llb_glob.specs.ItemReading.{items_of};
 ghost use Rattle.llb_glob.specs.Matching.{MatchesName};
 
 use crate::class::Class;
-use crate::cursor::{Cursor, Effect};
 use crate::fault::PatternFault;
 use crate::item::{Item, Letter};
-use crate::letters::Letters;
-use crate::places::matches_letters;
+use crate::name_characters::Letters;
+use crate::part_reading::{Cursor, Effect};
+use crate::position_sets::matches_letters;
 use llb_tree::{Name, NameTest};
 use std::alloc::Global;
 use std::marker::Model;

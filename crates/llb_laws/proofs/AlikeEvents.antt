@@ -38,10 +38,10 @@ use Rattle.llb_laws.specs.AlikeStates.{BothStatuses, AreAlikeStatuses, AreAlikeW
 use Rattle.llb_laws.specs.AlikeStates.{AreAlikeAnswers, AnswerAlike, AreAlikeRuns}
 use Rattle.llb_laws.specs.TokenRuns.{with_locals, run_from, HaveAlikeRuns}
 use Rattle.llb_laws.proofs.AlikeValues.{both_get, both_set}
-use Rattle.llb_laws.proofs.NamedTrees.{Alike, AlikeWorkspaces, AlikeWorks, AlikeLefts, AlikeStores, Writes}
+use Rattle.llb_laws.proofs.AlikeTreesWithNames.{Alike, AlikeWorkspaces, AlikeWorks, AlikeLefts, AlikeStores, Writes}
 use Rattle.llb_laws.proofs.ContentsByValue.{weaker_option, weaker_endings, weaker_status}
 use Rattle.llb_laws.proofs.AlikeMicroSteps.{alike_or_empty, alike_base_in, alike_micro_step, alike_ending}
-use Rattle.llb_laws.proofs.Outcomes.{got_of_all, alike_workspace, alike_inputs}
+use Rattle.llb_laws.proofs.AlikeOutcomes.{got_of_all, alike_workspace, alike_inputs}
 use Rattle.llb_laws.proofs.AlikeStateWrites.{both_by_place, both_weaker, each_set, each_replicate, both_replicate, plain_tree, weaker_tree, plain_workspace}
 use Rattle.llb_laws.proofs.AlikeStateWrites.{plain_works, put_all_alike}
 

@@ -3,14 +3,14 @@ use Rattle.std.proofs.Common.{◌≡◌, ℕ, zero, suc, Bool, true, false, cond
 use Rattle.std.proofs.Common.{refl, ap, subst}
 use Rattle.std.specs.Prelude.{ℤ, pos, negsuc, Result, Ok, Err, slice_get, unwrap_or}
 use Rattle.std.specs.List.{All, range_with_len}
-use Rattle.llb_ops.specs.declared.file.Action.{Action}
+use Rattle.llb_ops.specs.declared.file_op.Action.{Action}
 use Rattle.llb_tree.specs.Path.{is_name}
 use Rattle.llb_tree.specs.Tree.{TreeMap, empty_tree}
 use Rattle.llb_fileop.specs.declared.fault.ActFault.{ActFault}
-use Rattle.llb_mount.specs.declared.shown.Shown.{Shown}
+use Rattle.llb_mount.specs.declared.shown_tree.Shown.{Shown}
 use Rattle.llb_mount.specs.View.{with_tree_of}
-use Rattle.llb_applet.specs.declared.setting.Setting.{Setting}
-use Rattle.llb_applet.specs.declared.join.Joined.{Joined}
+use Rattle.llb_applet.specs.declared.directory_and_variables.Setting.{Setting}
+use Rattle.llb_applet.specs.declared.joined_commands.Joined.{Joined}
 use Rattle.llb_applet.specs.Commands.{run}
 use Rattle.llb_events.specs.declared.fault.VertexFault.{VertexFault}
 use Rattle.llb_events.specs.declared.fault.VertexFault.TheVariants as fault
@@ -21,10 +21,10 @@ use Rattle.llb_model.specs.Program.{result_for, tree_for, output_from, outputs_o
 use Rattle.llb_model.specs.Outcome.{ended, ending}
 use Rattle.llb_laws.specs.AlikeTrees.{IsKept, BothOptions, BothResults, BothLists, RelatesBody, BothEndings}
 use Rattle.llb_laws.proofs.AlikeValues.{both_append, both_map, both_maps, both_get}
-use Rattle.llb_laws.proofs.NamedTrees.{Alike, AlikeViews, AlikeWorkspaces, AlikeWorks, AlikeLefts, Texts, Writes}
+use Rattle.llb_laws.proofs.AlikeTreesWithNames.{Alike, AlikeViews, AlikeWorkspaces, AlikeWorks, AlikeLefts, Texts, Writes}
 use Rattle.llb_laws.proofs.AlikeTreeEdits.{alike_empty, alike_lay}
-use Rattle.llb_laws.proofs.Actions.{alike_act}
-use Rattle.llb_laws.proofs.Commands.{alike_mount_at, alike_with_tree_of, alike_run}
+use Rattle.llb_laws.proofs.AlikeActions.{alike_act}
+use Rattle.llb_laws.proofs.AlikeCommands.{alike_mount_at, alike_with_tree_of, alike_run}
 
 module _ (N : List ℕ → Type 0) (names : (n : List ℕ) → is_name n ≡ true → N n) (R : List ℕ → List ℕ → Type 0) (kept : IsKept R) where
   pub alike_or_empty : (o p : Option TreeMap) → BothOptions (Alike N R) o p → Alike N R (unwrap_or o empty_tree) (unwrap_or p empty_tree)

@@ -37,11 +37,11 @@ use Rattle.llb_laws.specs.TokenRuns.{with_locals, run_from, HandsRunsOn, HandsRu
 use Rattle.llb_laws.specs.TokenRuns.{SourceHasNames, NeedsNoCaches, MakesDigest, IsByValue, HaveTokens, HandsRunTokensOn, result_tree, StandsForContents}
 use Rattle.llb_laws.specs.TokenRuns.{PrintAlike, BoardStandsForContents}
 use Rattle.llb_laws.proofs.AlikeValues.{carry_options, both_get}
-use Rattle.llb_laws.proofs.Outcomes.{got_of_all, each_by_place, edge_to, alike_inputs, alike_output}
-use Rattle.llb_laws.proofs.ContentExchanges as exchanges
-use Rattle.llb_laws.proofs.ContentExchanges.{exchanged_kept, exchanged_itself}
+use Rattle.llb_laws.proofs.AlikeOutcomes.{got_of_all, each_by_place, edge_to, alike_inputs, alike_output}
+use Rattle.llb_laws.proofs.ContentRelations as exchanges
+use Rattle.llb_laws.proofs.ContentRelations.{exchanged_kept, exchanged_itself}
 use Rattle.llb_laws.proofs.AnyNames.{IsAny, any_name, steps_any, option_any}
-use Rattle.llb_laws.proofs.NamedTrees.{AlikeStores, Writes}
+use Rattle.llb_laws.proofs.AlikeTreesWithNames.{AlikeStores, Writes}
 use Rattle.llb_laws.proofs.WrittenContents.{IsName, a_name, relates_steps}
 use Rattle.llb_laws.proofs.ContentsByValue.{literal_kept, literal_itself, literal_digest}
 use Rattle.llb_laws.proofs.Tokens.{named_option, spelled_kept, unmarked, expands_to_one}

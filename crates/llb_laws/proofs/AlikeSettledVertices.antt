@@ -8,7 +8,7 @@ use Rattle.llb_laws.specs.AlikeTrees.{BothOptions, AreAlikeOutcomes, AreAlikeEnd
 use Rattle.llb_laws.specs.ContentLaws.{By, HasAlikeOutcomes, AreExchanged}
 use Rattle.llb_laws.specs.AlikeBoards.{AreSettled, SettleAlike, SettleExchanged}
 use Rattle.llb_laws.proofs.AlikeValues.{carry_options}
-use Rattle.llb_laws.proofs.ContentExchanges.{hands_contents_on}
+use Rattle.llb_laws.proofs.ContentRelations.{hands_contents_on}
 use Rattle.llb_laws.proofs.AnyNames.{hands_on}
 
 module _ (b c : BoardValue) (graph : IsGraph b.build.graph) (stands : StandsByOutcomes b.build b.state) (also : StandsByOutcomes c.build c.state) where

@@ -3,8 +3,8 @@ use Rattle.std.proofs.Common.{◌≡◌, ℕ, zero, suc, List, [], ◌∷◌, So
 use Rattle.std.specs.Prelude.{slice_get, slice_set, replicate}
 use Rattle.std.specs.FinMap as finite
 use Rattle.llb_tree.specs.Tree.{TreeMap}
-use Rattle.llb_mount.specs.declared.shown.Shown.{Shown}
-use Rattle.llb_model.specs.CacheBridge.{store_of}
+use Rattle.llb_mount.specs.declared.shown_tree.Shown.{Shown}
+use Rattle.llb_model.specs.TwoCacheModels.{store_of}
 use Rattle.llb_model.specs.Caches.{Instance, place_cmp, Store, content, put, put_all}
 use Rattle.llb_model.specs.Program.{Workspace, LocalTree, Files, Layers, Mounted, Work}
 use Rattle.llb_model.proofs.StoreWrites.{place_or, content_same, content_other}
@@ -12,7 +12,7 @@ use Rattle.llb_laws.specs.AlikeTrees.{BothOptions, BothLists, AreAlike, AreAlike
 use Rattle.llb_laws.specs.AlikeStates.{AreAlikeStores}
 use Rattle.llb_laws.proofs.AlikeValues.{carry_options}
 use Rattle.llb_laws.proofs.ContentsByValue.{weaker_like, weaker_trees}
-use Rattle.llb_laws.proofs.NamedTrees.{Alike, AlikeMounts, AlikeViews, AlikeWorkspaces, AlikeWorks, AlikeStores}
+use Rattle.llb_laws.proofs.AlikeTreesWithNames.{Alike, AlikeMounts, AlikeViews, AlikeWorkspaces, AlikeWorks, AlikeStores}
 
 -- ---- lists
 

@@ -8,10 +8,10 @@ use Rattle.std.specs.declared.cmp.Ordering.TheVariants.{Equal}
 use Rattle.std.specs.Ordering.{eq_by_cmp, is_lt}
 use Rattle.std.specs.FinMap as finite
 use Rattle.std.specs.FinMap.Entries.{below_all, same_entries}
-use Rattle.llb_wire.specs.Answer.{◌>>=◌}
+use Rattle.llb_wire.specs.CallResults.{◌>>=◌}
 use Rattle.llb_tree.specs.Path.{path_cmp, is_within}
 use Rattle.llb_tree.specs.PathOrder.{path_cmp-IsTotalOrder, path_cmp-IsAntisymmetric, same_path}
-use Rattle.llb_tree.specs.Meta.{MetaValue, new_dir_meta}
+use Rattle.llb_tree.specs.ModeAndOwner.{MetaValue, new_dir_meta}
 use Rattle.llb_tree.specs.Tree.{TreeMap, Entry, Dir, File, Look, parents, all_dirs, walk, file_fits, dir_fits, not_root, put_file, put_dir, found, without}
 use Rattle.llb_tree.specs.Tree.{remove}
 use Rattle.llb_tree.specs.Tree.{list, name_below, is_dir, empty_tree}
@@ -23,7 +23,7 @@ use Rattle.llb_fileop.proofs.PathOrderTraversal.{Pair, found_at}
 use Rattle.llb_laws.specs.AlikeTrees.{BothOptions, BothResults, BothLists, AreLike, AreAlike}
 use Rattle.llb_model.proofs.ConstructorEqualities.{none_some}
 use Rattle.llb_laws.proofs.AlikeValues.{carry_options, cond_options, after_same, InResult, in_after, unread}
-use Rattle.llb_laws.proofs.NamedTrees.{IsNamed, Alike}
+use Rattle.llb_laws.proofs.AlikeTreesWithNames.{IsNamed, Alike}
 
 -- ---- paths
 

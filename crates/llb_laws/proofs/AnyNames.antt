@@ -3,14 +3,14 @@ use Rattle.std.proofs.Common.{◌≡◌, ℕ, true, List, Option, Some, None, in
 use Rattle.std.specs.Prelude.{Result, Ok, Err}
 use Rattle.std.specs.List.{All}
 use Rattle.std.proofs.lemmas.List.Elements.{All-weaker}
-use Rattle.llb_ops.specs.declared.file.ActionKind.{ActionKind}
+use Rattle.llb_ops.specs.declared.file_op.ActionKind.{ActionKind}
 use Rattle.llb_tree.specs.Path.{is_name}
 use Rattle.llb_tree.specs.Tree.{TreeMap}
 use Rattle.llb_fileop.specs.FileActions.{act}
 use Rattle.llb_merge.specs.Laying.{lay}
-use Rattle.llb_mount.specs.declared.shown.Shown.{Shown}
+use Rattle.llb_mount.specs.declared.shown_tree.Shown.{Shown}
 use Rattle.llb_applet.specs.Commands.{run}
-use Rattle.llb_applet.specs.declared.setting.Setting.{Setting}
+use Rattle.llb_applet.specs.declared.directory_and_variables.Setting.{Setting}
 use Rattle.llb_applet.specs.declared.command.Command.{Command}
 use Rattle.llb_applet.specs.declared.command.Command.TheVariants as command
 use Rattle.llb_loader.specs.Graph.{Numbered, IsGraph}
@@ -19,11 +19,11 @@ use Rattle.llb_model.specs.Program.{MicroStep, ReadLocal, Act, LayInput, Run, pr
 use Rattle.llb_model.specs.Outcome.{outcome}
 use Rattle.llb_laws.specs.AlikeTrees.{IsKept, BothOptions, BothResults, AreAlike, AreAlikeMounts, AreAlikeViews, RelatesTexts, RelatesBody, RelatesStep}
 use Rattle.llb_laws.specs.ContentLaws.{HandsOn}
-use Rattle.llb_laws.proofs.NamedTrees.{Alike, AlikeMounts, AlikeViews, Texts, Writes}
+use Rattle.llb_laws.proofs.AlikeTreesWithNames.{Alike, AlikeMounts, AlikeViews, Texts, Writes}
 use Rattle.llb_laws.proofs.AlikeTreeEdits.{alike_lay}
-use Rattle.llb_laws.proofs.Actions.{alike_act}
-use Rattle.llb_laws.proofs.Commands.{alike_run}
-use Rattle.llb_laws.proofs.Outcomes.{hands_on_but}
+use Rattle.llb_laws.proofs.AlikeActions.{alike_act}
+use Rattle.llb_laws.proofs.AlikeCommands.{alike_run}
+use Rattle.llb_laws.proofs.AlikeOutcomes.{hands_on_but}
 use Rattle.llb_laws.proofs.ContentsByValue.{weaker_option, weaker_outcomes}
 use Rattle.llb_laws.proofs.AlikeStateWrites.{both_weaker, plain_views}
 

@@ -7,14 +7,14 @@ use Rattle.std.specs.Map.{keys_of, lookup}
 use Rattle.std.proofs.lemmas.List.Elements.{All-nil, All-cons, All-head, All-tail}
 use Rattle.llb_cache.specs.Caches.{Row, trees_of}
 use Rattle.llb_cache.specs.Key.{same_key}
-use Rattle.llb_cache.specs.LawsOfKeys.{same_keys}
+use Rattle.llb_cache.specs.KeyEquality.{same_keys}
 use Rattle.llb_cache.specs.declared.key.Key.{Key}
 use Rattle.llb_tree.specs.Tree.{TreeMap}
-use Rattle.llb_model.specs.CacheBridge.{store_of}
+use Rattle.llb_model.specs.TwoCacheModels.{store_of}
 use Rattle.llb_model.specs.Caches.{Instance, content}
-use Rattle.llb_model.proofs.BridgeContents.{shows_instances}
+use Rattle.llb_model.proofs.TwoModelsContents.{shows_instances}
 use Rattle.llb_model.proofs.ConstructorEqualities.{none_some}
-use Rattle.llb_laws.proofs.Outcomes.{got_of_all}
+use Rattle.llb_laws.proofs.AlikeOutcomes.{got_of_all}
 
 -- ---- a walk over a list
 

@@ -9,7 +9,7 @@ use Rattle.llb_loader.specs.Graph.{Numbered}
 use Rattle.llb_loader.specs.LoadResult.{rows_from}
 use Rattle.llb_loader.proofs.FirstRowOfDigest.{cases_bytes}
 use Rattle.llb_laws.specs.Digests.{PartsDoNotCollide}
-use Rattle.llb_laws.proofs.Entries.{row_from}
+use Rattle.llb_laws.proofs.VertexEntries.{row_from}
 
 -- a place of an entry has its row
 pub row_of : (zs : List (List ℕ)) (i : ℕ) (x : List ℕ) → i < length zs → get_or zs i x ≡ x → row_at (rows_from zs) i ≡ row_from x

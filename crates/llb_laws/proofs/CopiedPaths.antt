@@ -4,10 +4,10 @@ use Rattle.std.specs.Prelude.{Result, Ok, Err}
 use Rattle.std.specs.List.{filter}
 use Rattle.std.specs.FinMap as finite
 use Rattle.std.specs.FinMap.Entries.{where_key, find-where_key, is_sorted-where_key, same_entries}
-use Rattle.llb_wire.specs.Answer.{◌>>=◌}
+use Rattle.llb_wire.specs.CallResults.{◌>>=◌}
 use Rattle.llb_ops.specs.declared.actions.CopyFile.{CopyFile}
-use Rattle.llb_ops.specs.declared.file.ActionKind.{ActionKind}
-use Rattle.llb_ops.specs.declared.file.ActionKind.TheVariants as kind
+use Rattle.llb_ops.specs.declared.file_op.ActionKind.{ActionKind}
+use Rattle.llb_ops.specs.declared.file_op.ActionKind.TheVariants as kind
 use Rattle.llb_tree.specs.Path.{path_cmp, is_within}
 use Rattle.llb_tree.specs.PathOrder.{path_cmp-IsTotalOrder, path_cmp-IsAntisymmetric}
 use Rattle.llb_tree.specs.Tree.{TreeMap, moved, found, is_dir}

@@ -16,7 +16,7 @@ use Rattle.llb_laws.specs.AlikeTrees.{BothLists}
 use Rattle.llb_laws.specs.RenamedAndKeptSources.{IsRenamed, HasTreesRenamed, RenamedEndAlike}
 use Rattle.llb_laws.specs.RenamedAndKeptSources.{Origin, Kept, Copied, IsEdgeFrom, IsInPlaceOf, IsCopyOf, HasOrigin, HaveOrigins, KeptStandIn}
 use Rattle.llb_laws.proofs.AlikeValues.{both_length}
-use Rattle.llb_laws.proofs.Vertices.{at_number}
+use Rattle.llb_laws.proofs.VerticesByNumber.{at_number}
 use Rattle.llb_laws.proofs.Matches.{none_past, matched_alike}
 use Rattle.llb_laws.proofs.OpsOfOneKind.{same_by_kind, same_sources, source_outcome}
 

@@ -15,8 +15,8 @@ use Rattle.llb_loader.specs.declared.graph.Vertex.{Vertex}
 use Rattle.llb_loader.specs.Numbering.{rank_in}
 use Rattle.llb_loader.specs.RowLookup.{row_at}
 use Rattle.llb_loader.specs.Graph.{Numbered, HasInputs, IsGraph}
-use Rattle.llb_loader.specs.Linking.{plan_of, op_at, input_at}
-use Rattle.llb_loader.specs.LinkResult.{IsGraphOf}
+use Rattle.llb_loader.specs.GraphOfRows.{plan_of, op_at, input_at}
+use Rattle.llb_loader.specs.GraphOfRowsResult.{IsGraphOf}
 use Rattle.llb_loader.specs.LoadResult.{rows_from}
 use Rattle.llb_loader.specs.LocalSources.{Local}
 use Rattle.llb_loader.proofs.UniqueNumbering.{rank_at}
@@ -25,8 +25,8 @@ use Rattle.llb_model.specs.Outcome.{ending_in, output_in}
 use Rattle.llb_laws.specs.Digests.{LoadWithoutCollision, IsPartOf, HaveOneDigest, HaveSameSources}
 use Rattle.llb_laws.specs.Definitions.{last_entry, EndInOneEntry, LoadToOneEnd, ShareResults, PartSharesResult, OrderSharesResult}
 use Rattle.llb_model.proofs.Lists.{get_within, got_within}
-use Rattle.llb_laws.proofs.Vertices.{at_number}
-use Rattle.llb_laws.proofs.Entries.{row_from, vertex_is, ok_inside, one_op_each}
+use Rattle.llb_laws.proofs.VerticesByNumber.{at_number}
+use Rattle.llb_laws.proofs.VertexEntries.{row_from, vertex_is, ok_inside, one_op_each}
 use Rattle.llb_laws.proofs.ReachedVertices.{leads_to, of_each}
 use Rattle.llb_laws.proofs.Digests.{share_outcomes}
 use Rattle.llb_laws.proofs.CollisionFreeEntries.{parts_do_not_collide}

@@ -21,8 +21,8 @@ use Rattle.llb_laws.specs.Matchings.{DoTheSame, EdgesMatch, DoAlike, IsMatched}
 use Rattle.llb_laws.specs.Digests.{LoadWithoutCollision, HaveSameSources, HaveOneDigest, HaveOneOutcome, ShareOutcomes, DependOnSources}
 use Rattle.llb_model.proofs.Lists.{get_within, got_within}
 use Rattle.llb_model.proofs.Outcomes.{plain, each_below}
-use Rattle.llb_laws.proofs.Entries.{HaveOneOpEach, one_op_each, one_op_alone}
-use Rattle.llb_laws.proofs.Vertices.{at_number}
+use Rattle.llb_laws.proofs.VertexEntries.{HaveOneOpEach, one_op_each, one_op_alone}
+use Rattle.llb_laws.proofs.VerticesByNumber.{at_number}
 use Rattle.llb_laws.proofs.Matches.{MountAlike, none_past, both_by_place, trees_alike, matched_alike, plain_alike}
 use Rattle.llb_laws.proofs.OpsOfOneKind.{same_by_kind}
 

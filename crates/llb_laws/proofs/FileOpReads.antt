@@ -3,9 +3,9 @@ use Rattle.std.proofs.Common.{◌≡◌, ℕ, zero, suc, ◌+◌, ◌<◌, List,
 use Rattle.std.proofs.Common.{inl, inr, ◌⊎◌}
 use Rattle.std.specs.Prelude.{ℤ, pos, negsuc, Result, Ok, Err, slice_get, unwrap_or}
 use Rattle.llb_ops.specs.declared.actions.CopyFile.{CopyFile}
-use Rattle.llb_ops.specs.declared.file.Action.{Action}
-use Rattle.llb_ops.specs.declared.file.ActionKind.TheVariants as action
-use Rattle.llb_ops.specs.declared.file.FileOp.{FileOp}
+use Rattle.llb_ops.specs.declared.file_op.Action.{Action}
+use Rattle.llb_ops.specs.declared.file_op.ActionKind.TheVariants as action
+use Rattle.llb_ops.specs.declared.file_op.FileOp.{FileOp}
 use Rattle.llb_ops.specs.declared.op.Kind.{Kind}
 use Rattle.llb_ops.specs.declared.op.Kind.TheVariants as kind
 use Rattle.llb_tree.specs.Tree.{TreeMap, empty_tree}

@@ -15,7 +15,7 @@ use Rattle.llb_board.specs.BoardValue.{BoardValue}
 use Rattle.llb_board.specs.PlainVertexJobs.{plain_start, plain_job, job_from, KnownLand, IsKnown}
 use Rattle.llb_laws.specs.Digests.{LoadWithoutCollision, HaveOneDigest, HaveSameSources}
 use Rattle.llb_laws.specs.Jobs.{given_to, credited_to, ShareJobs, WorkedElsewhereLands}
-use Rattle.llb_laws.proofs.Entries.{HaveOneOpEach, one_op_each}
+use Rattle.llb_laws.proofs.VertexEntries.{HaveOneOpEach, one_op_each}
 use Rattle.llb_laws.proofs.Digests.{one_does_same, inputs_same}
 
 -- ---- jobs

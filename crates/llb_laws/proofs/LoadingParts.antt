@@ -27,8 +27,8 @@ use Rattle.llb_loader.specs.RowLookup.{row_at, AllSame, Collides, first_with, ot
 use Rattle.llb_loader.specs.Features.{feature_of}
 use Rattle.llb_loader.specs.Rules.{MeetsAll, MeetsRules, Breaks, BreaksFirst, IsBelow, output_count, rules_on}
 use Rattle.llb_loader.specs.Graph.{Numbered, IsGraph}
-use Rattle.llb_loader.specs.Linking.{Plan, plan_of, op_at, input_at, input_row, links_in, ReachedRow, HasInput, IsUnknown, IsBadIndex, IsStarted}
-use Rattle.llb_loader.specs.Linking.{outputs_there, vertex_of, Refuses}
+use Rattle.llb_loader.specs.GraphOfRows.{Plan, plan_of, op_at, input_at, input_row, links_in, ReachedRow, HasInput, IsUnknown, IsBadIndex, IsStarted}
+use Rattle.llb_loader.specs.GraphOfRows.{outputs_there, vertex_of, Refuses}
 use Rattle.llb_loader.specs.RowReading.{AreOps, RefusesRow}
 use Rattle.llb_loader.specs.LoadResult.{IsGraphIn, rows_from}
 use Rattle.llb_loader.proofs.FirstRowOfDigest.{first_cases}
@@ -39,7 +39,7 @@ use Rattle.llb_loader.proofs.UniqueNumbering.{numbering_down}
 use Rattle.llb_model.proofs.Lists.{get_within}
 use Rattle.llb_laws.specs.Definitions.{last_entry, HasPart}
 use Rattle.llb_laws.specs.DefinitionParts.{HasVertices, PartIsNotRefused, OrderIsNotRefused}
-use Rattle.llb_laws.proofs.Entries.{row_from, vertex_is, ok_inside}
+use Rattle.llb_laws.proofs.VertexEntries.{row_from, vertex_is, ok_inside}
 use Rattle.llb_laws.proofs.CollisionFreeEntries.{row_of, parts_do_not_collide}
 use Rattle.llb_laws.proofs.EntryInclusion.{read_once}
 use Rattle.llb_laws.proofs.Definitions.{part_of_itself}

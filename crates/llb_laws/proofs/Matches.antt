@@ -14,7 +14,7 @@ use Rattle.llb_model.proofs.ItemsFromEarlierItems.{by_number_length}
 use Rattle.llb_model.proofs.Outcomes.{plain, outcome_is, each_below}
 use Rattle.llb_laws.specs.Matchings.{output_at, DoTheSame, EdgesMatch, IsMatched, MatchedEndAlike, By}
 use Rattle.llb_laws.specs.AlikeTrees.{BothLists}
-use Rattle.llb_laws.proofs.Vertices.{plain_is}
+use Rattle.llb_laws.proofs.VerticesByNumber.{plain_is}
 
 -- past the vertices there is no outcome
 pub none_past : (b : Build) (v : ℕ) → length b.graph.vertices ≤ v → outcome b v ≡ None

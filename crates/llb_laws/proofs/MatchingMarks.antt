@@ -19,7 +19,7 @@ use Rattle.llb_laws.specs.Definitions.{IsKindRewritten}
 use Rattle.llb_laws.specs.Matchings.{EdgesMatch, IsMatched, By, MatchedEndAlike}
 use Rattle.llb_laws.specs.MatchingMarks.{edge_at, IsLike, HaveOneMark, IsFirstLike, AreMarks, ArePartnersBy}
 use Rattle.llb_laws.specs.MatchingMarks.{same_mark, share_mark, AreLike, LoadMatched}
-use Rattle.llb_laws.proofs.Vertices.{at_number}
+use Rattle.llb_laws.proofs.VerticesByNumber.{at_number}
 use Rattle.llb_laws.proofs.Matches.{both_by_place}
 use Rattle.llb_laws.proofs.OpsOfOneKind.{same_by_kind, same_sources}
 

@@ -20,7 +20,7 @@ use Rattle.llb_model.specs.Outcome.{Done, Ended, ending, inputs_from, outcome_on
 use Rattle.llb_model.proofs.Lists.{some_of}
 use Rattle.llb_model.proofs.Outcomes.{plain, outcome_is}
 use Rattle.llb_laws.specs.Matchings.{DoTheSame}
-use Rattle.llb_laws.proofs.Vertices.{at_number}
+use Rattle.llb_laws.proofs.VerticesByNumber.{at_number}
 
 -- ---- ops of one kind
 

@@ -6,7 +6,7 @@ use Rattle.llb_tree.specs.Tree.{TreeMap, Entry, Dir, File}
 use Rattle.llb_loader.specs.declared.graph.Vertex.{Vertex}
 use Rattle.llb_loader.specs.Graph.{Numbered, IsGraph}
 use Rattle.llb_loader.specs.LocalSources.{Local, tree_of_local}
-use Rattle.llb_model.specs.CacheBridge.{store_of}
+use Rattle.llb_model.specs.TwoCacheModels.{store_of}
 use Rattle.llb_model.specs.Caches.{Store, content}
 use Rattle.llb_board.specs.BoardValue.{BoardValue, Replays}
 use Rattle.llb_laws.specs.AlikeTrees.{BothOptions, AreLike, AreAlike}

@@ -9,9 +9,9 @@ use Rattle.llb_loader.specs.declared.graph.Edge.{Edge}
 use Rattle.llb_loader.specs.declared.graph.Vertex.{Vertex}
 use Rattle.llb_loader.specs.ReachedRows.{Walk}
 use Rattle.llb_loader.specs.Graph.{Numbered, links, LeadsBelow, HasInputs, IsGraph}
-use Rattle.llb_loader.specs.Linking.{input_at}
+use Rattle.llb_loader.specs.GraphOfRows.{input_at}
 use Rattle.llb_model.proofs.Lists.{get_within, got_within}
-use Rattle.llb_laws.proofs.Vertices.{at_number}
+use Rattle.llb_laws.proofs.VerticesByNumber.{at_number}
 
 -- an edge leads to a vertex with the digest in an input, and to the output with the index in it
 pub record LeadsTo (g : Numbered) (input : Input) (e : Edge) : Type 0 where

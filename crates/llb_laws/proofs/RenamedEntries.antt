@@ -9,7 +9,7 @@ use Rattle.std.proofs.lemmas.List.Elements.{Contains-get_or}
 use Rattle.std.proofs.lemmas.Option.{slice_get-get_or, slice_get-map}
 use Rattle.llb_wire.specs.Digest.{digest_text}
 use Rattle.llb_ops.specs.Messages.{op_of}
-use Rattle.llb_loader.specs.Linking.{input_at}
+use Rattle.llb_loader.specs.GraphOfRows.{input_at}
 use Rattle.llb_ops.specs.Definition.{definition_of}
 use Rattle.llb_loader.specs.Graph.{Numbered}
 use Rattle.llb_loader.specs.LoadResult.{IsGraphIn}

@@ -8,7 +8,7 @@ use Rattle.llb_ops.specs.Messages.{op_of}
 use Rattle.llb_loader.specs.declared.graph.Edge.{Edge}
 use Rattle.llb_loader.specs.declared.graph.Vertex.{Vertex}
 use Rattle.llb_loader.specs.Graph.{Numbered, HasInputs, IsVertex, IsVertexOf, IsGraph}
-use Rattle.llb_loader.specs.Linking.{input_at}
+use Rattle.llb_loader.specs.GraphOfRows.{input_at}
 use Rattle.llb_loader.specs.LoadResult.{IsGraphIn}
 use Rattle.llb_loader.specs.LocalSources.{local_name}
 use Rattle.llb_model.specs.Program.{Build}
@@ -16,10 +16,10 @@ use Rattle.llb_model.specs.Outcome.{ending_in, output_in, outcome}
 use Rattle.llb_laws.specs.Matchings.{DoTheSame, EdgesMatch, IsMatched}
 use Rattle.llb_laws.specs.RenamedAndKeptSources.{HasTreesRenamed}
 use Rattle.llb_laws.specs.Definitions.{last_entry, HaveRewrittenResult, IsInputRewritten, IsOpRewritten, IsRewriting, RewritingSharesResult}
-use Rattle.llb_laws.proofs.Vertices.{at_number}
+use Rattle.llb_laws.proofs.VerticesByNumber.{at_number}
 use Rattle.llb_laws.proofs.Matches.{both_by_place, matched_alike}
 use Rattle.llb_laws.proofs.OpsOfOneKind.{same_by_kind, same_sources}
-use Rattle.llb_laws.proofs.Entries.{entry_of}
+use Rattle.llb_laws.proofs.VertexEntries.{entry_of}
 use Rattle.llb_laws.proofs.ReachedVertices.{leads_to, of_each}
 use Rattle.llb_laws.proofs.CollisionFreeEntries.{parts_do_not_collide}
 use Rattle.llb_laws.proofs.Definitions.{part_of_itself, result_of}

@@ -10,7 +10,7 @@ use Rattle.llb_loader.specs.Graph.{Numbered}
 use Rattle.llb_loader.specs.LocalSources.{Local, local_name, tree_of_local}
 use Rattle.llb_loader.specs.WaitingRows.{IsMarked}
 use Rattle.llb_loader.proofs.OutputNumbers.{false_when, true_when}
-use Rattle.llb_model.specs.CacheBridge.{store_of}
+use Rattle.llb_model.specs.TwoCacheModels.{store_of}
 use Rattle.llb_model.specs.Caches.{Store}
 use Rattle.llb_board.specs.BoardValue.{BoardValue}
 use Rattle.llb_model.proofs.ConstructorEqualities.{none_some}
@@ -20,7 +20,7 @@ use Rattle.llb_laws.specs.TokenRuns.{BoardStandsForContents, HaveTokens, IsByVal
 use Rattle.llb_laws.specs.TokenLists.{BoardStandsFor, Extends, IsSpelled, StandsFor, SourceStands, SourcesStand, HaveTokensOf}
 use Rattle.llb_laws.proofs.AlikeValues.{carry_options}
 use Rattle.llb_laws.proofs.ContentsByValue.{weaker_option, weaker_like}
-use Rattle.llb_laws.proofs.Plans.{differ}
+use Rattle.llb_laws.proofs.TokenPlans.{differ}
 use Rattle.llb_laws.proofs.AlikeRuns.{needs_no_caches}
 use Rattle.llb_laws.proofs.Tokens.{unmarked}
 use Rattle.llb_laws.proofs.AlikeTreeEdits.{ArePairs, both_entries, find_both}

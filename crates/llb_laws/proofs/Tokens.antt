@@ -12,13 +12,13 @@ use Rattle.llb_loader.specs.LocalSources.{tree_of_local}
 use Rattle.llb_model.specs.Program.{program_of}
 use Rattle.llb_model.specs.Outcome.{outcome}
 use Rattle.llb_tree.specs.PathOrder.{path_cmp-IsTotalOrder, path_cmp-IsAntisymmetric}
-use Rattle.llb_tree.specs.Meta.{MetaValue}
+use Rattle.llb_tree.specs.ModeAndOwner.{MetaValue}
 use Rattle.llb_tree.specs.Tree.{TreeMap, Entry, Dir, File}
 use Rattle.llb_laws.specs.AlikeTrees.{IsKept, BothOptions, AreLike, AreAlike, BothOutcomes}
 use Rattle.llb_laws.specs.ContentLaws.{ExpandsTo, spelled_from, spelled, has_mark, step_digests, HasNames, IsLiteral, IsSourceOf, HaveAlikeSources}
 use Rattle.llb_laws.specs.ContentLaws.{HandsTokensOn}
-use Rattle.llb_laws.proofs.NamedTrees.{Alike, Writes}
-use Rattle.llb_laws.proofs.Outcomes.{hands_on_but}
+use Rattle.llb_laws.proofs.AlikeTreesWithNames.{Alike, Writes}
+use Rattle.llb_laws.proofs.AlikeOutcomes.{hands_on_but}
 use Rattle.llb_laws.proofs.WrittenContents.{IsName, a_name, relates_steps}
 use Rattle.llb_laws.proofs.ContentsByValue.{literal_kept, literal_itself, literal_digest, weaker_outcomes, reached_through}
 use Rattle.llb_laws.proofs.AlikeStateWrites.{weaker_tree}

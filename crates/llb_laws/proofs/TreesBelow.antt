@@ -21,7 +21,7 @@ use Rattle.llb_fileop.specs.Copying.{Chosen, OnePath, EachMatch, chosen_by}
 use Rattle.llb_fileop.specs.declared.fault.ActFault.{ActFault}
 use Rattle.llb_fileop.specs.CallResults.{on_tree, on_pattern}
 use Rattle.llb_ops.specs.declared.actions.CopyFile.{CopyFile}
-use Rattle.llb_wire.specs.Answer.{◌>>=◌}
+use Rattle.llb_wire.specs.CallResults.{◌>>=◌}
 use Rattle.llb_glob.specs.Pattern.{pattern_of}
 use Rattle.llb_fileop.proofs.PathOrderTraversal.{Pair}
 use Rattle.llb_laws.specs.CopiedPaths.{AgreeBelow, AgreeOn, AgreeFor}

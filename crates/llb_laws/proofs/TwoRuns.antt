@@ -24,7 +24,7 @@ use Rattle.llb_model.specs.Table.{Reply, claim_grant, step_grant, settle_grant, 
 use Rattle.llb_model.proofs.Lists.{inside, get_within}
 use Rattle.llb_board.specs.BoardValue.{BoardValue, opened, recorded}
 use Rattle.llb_board.specs.Laws.{SettledArePlain}
-use Rattle.llb_board.specs.WalkAndUndo.{told_as}
+use Rattle.llb_board.specs.UndoableEvents.{told_as}
 use Rattle.llb_board.specs.declared.fault.WalkFault.{WalkFault}
 use Rattle.llb_laws.specs.AlikeTrees.{BothLists}
 use Rattle.llb_laws.specs.BoardOutcomes.{KeptOutputsStandIn, MatchedSettleAlike, PartSettlesAlike, RenamedSettleAlike, RewritingSettlesAlike, SettleAlike}
@@ -39,7 +39,7 @@ use Rattle.llb_laws.specs.RenamedAndKeptSources.{Copied, HaveOrigins, IsEdgeFrom
 use Rattle.llb_laws.specs.TwoRuns.{AgreeAsBoards, AgreeAsGraphs, AgreeByLaws, IsRunOf, MeetBuilds, MeetGraphs, MeetOutputs}
 use Rattle.llb_laws.specs.TwoRuns.{after_each, board_after, board_by, plain_outputs, same_number}
 use Rattle.llb_laws.proofs.Definitions.{part_of_itself}
-use Rattle.llb_laws.proofs.Entries.{ok_inside}
+use Rattle.llb_laws.proofs.VertexEntries.{ok_inside}
 use Rattle.llb_laws.proofs.EntryInclusion.{read_once}
 use Rattle.llb_laws.proofs.Matches.{none_past}
 use Rattle.llb_laws.proofs.SettledVertexOutcomes.{output_is}

@@ -10,8 +10,8 @@ use Rattle.std.specs.List.{All, flat_map, list_any}
 use Rattle.std.proofs.lemmas.Bool.{agree_below_at, and_parts, cases_lt, ltb-true, ne_eqb, or_parts}
 use Rattle.std.proofs.lemmas.List.{get_or_past}
 use Rattle.std.proofs.lemmas.List.Elements.{All-nil, All-cons, All-head, All-tail, All-map}
-use Rattle.llb_ops.specs.declared.file.ActionKind.{ActionKind}
-use Rattle.llb_ops.specs.declared.file.ActionKind.TheVariants as kind
+use Rattle.llb_ops.specs.declared.file_op.ActionKind.{ActionKind}
+use Rattle.llb_ops.specs.declared.file_op.ActionKind.TheVariants as kind
 use Rattle.llb_ops.specs.declared.exec.Meta.{Meta}
 use Rattle.llb_ops.specs.declared.merge.MergeInput.{MergeInput}
 use Rattle.llb_ops.specs.declared.op.Kind.{Kind}
@@ -22,17 +22,17 @@ use Rattle.sha2.specs.Sha256.{sha256}
 use Rattle.llb_wire.specs.Digest.{digits_of}
 use Rattle.llb_tree.specs.Path.{is_name}
 use Rattle.llb_tree.specs.Tree.{TreeMap, is_dir}
-use Rattle.llb_applet.specs.declared.setting.Setting.{Setting}
+use Rattle.llb_applet.specs.declared.directory_and_variables.Setting.{Setting}
 use Rattle.llb_applet.specs.declared.command.Command.{Command}
 use Rattle.llb_applet.specs.declared.command.Command.TheVariants as command
-use Rattle.llb_applet.specs.declared.join.Joined.{Joined}
+use Rattle.llb_applet.specs.declared.joined_commands.Joined.{Joined}
 use Rattle.llb_applet.specs.Commands.{line, line_of, listed}
 use Rattle.llb_loader.specs.declared.graph.Vertex.{Vertex}
 use Rattle.llb_model.specs.Program.{MicroStep, ReadLocal, Act, LayInput, Run, all_and, runs_of, setting_of, steps_of, program_of}
 use Rattle.llb_laws.specs.AlikeTrees.{RelatesBody}
 use Rattle.llb_laws.specs.ContentLaws.{has_mark, digests, step_digests, writes_mark, body_has_mark, step_writes_mark}
-use Rattle.llb_laws.proofs.NamedTrees.{Texts, Writes}
-use Rattle.llb_laws.proofs.Paths.{inside_named}
+use Rattle.llb_laws.proofs.AlikeTreesWithNames.{Texts, Writes}
+use Rattle.llb_laws.proofs.PathsOfNames.{inside_named}
 
 -- ---- contents without the byte
 

@@ -2,7 +2,7 @@
 use Rattle.std.specs.Prelude.{◌≡◌, ◌↔◌, ℕ, Bool, true, false, List, length, Option, Some, option_and_then, slice_get, slice_index_or}
 use Rattle.llb_ops.specs.declared.op.Kind.{Kind}
 use Rattle.llb_ops.specs.declared.op.Kind.TheVariants as kind
-use Rattle.llb_ops.specs.declared.file.FileOp.{FileOp}
+use Rattle.llb_ops.specs.declared.file_op.FileOp.{FileOp}
 use Rattle.llb_tree.specs.Tree.{TreeMap}
 use Rattle.llb_loader.specs.declared.graph.Edge.{Edge}
 use Rattle.llb_loader.specs.declared.graph.Vertex.{Vertex}

@@ -3,12 +3,12 @@ use Rattle.std.specs.Prelude.{◌≡◌, ℕ, List, [], ◌∷◌, ◌++◌, Opt
 use Rattle.std.specs.List.{flat_map}
 use Rattle.std.specs.FinMap as finite
 use Rattle.llb_wire.specs.Digest.{digits_of}
-use Rattle.llb_ops.specs.declared.file.ActionKind.{ActionKind}
-use Rattle.llb_ops.specs.declared.file.ActionKind.TheVariants as kind
+use Rattle.llb_ops.specs.declared.file_op.ActionKind.{ActionKind}
+use Rattle.llb_ops.specs.declared.file_op.ActionKind.TheVariants as kind
 use Rattle.llb_tree.specs.Tree.{TreeMap, Entry, Dir, File}
-use Rattle.llb_tree.specs.Meta.{MetaValue}
-use Rattle.llb_mount.specs.declared.shown.Shown.{Shown}
-use Rattle.llb_applet.specs.declared.setting.Setting.{Setting}
+use Rattle.llb_tree.specs.ModeAndOwner.{MetaValue}
+use Rattle.llb_mount.specs.declared.shown_tree.Shown.{Shown}
+use Rattle.llb_applet.specs.declared.directory_and_variables.Setting.{Setting}
 use Rattle.llb_applet.specs.declared.command.Command.{Command}
 use Rattle.llb_applet.specs.declared.command.Command.TheVariants as command
 use Rattle.llb_applet.specs.Commands.{line, listed}

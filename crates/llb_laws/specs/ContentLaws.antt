@@ -3,15 +3,15 @@ use Rattle.std.specs.Prelude.{◌≡◌, ◌⊎◌, ℕ, zero, suc, ◌+◌, ◌
 use Rattle.std.specs.Prelude.{slice_get}
 use Rattle.std.specs.List.{All, Contains, flat_map, list_any}
 use Rattle.std.specs.FinMap as finite
-use Rattle.llb_ops.specs.declared.file.ActionKind.{ActionKind}
-use Rattle.llb_ops.specs.declared.file.ActionKind.TheVariants as kind
+use Rattle.llb_ops.specs.declared.file_op.ActionKind.{ActionKind}
+use Rattle.llb_ops.specs.declared.file_op.ActionKind.TheVariants as kind
 use Rattle.llb_tree.specs.Path.{is_name}
 use Rattle.llb_tree.specs.Tree.{TreeMap, Entry}
 use Rattle.llb_fileop.specs.FileActions.{act}
 use Rattle.llb_merge.specs.Laying.{lay}
-use Rattle.llb_mount.specs.declared.shown.Shown.{Shown}
+use Rattle.llb_mount.specs.declared.shown_tree.Shown.{Shown}
 use Rattle.llb_applet.specs.Commands.{run, line}
-use Rattle.llb_applet.specs.declared.setting.Setting.{Setting}
+use Rattle.llb_applet.specs.declared.directory_and_variables.Setting.{Setting}
 use Rattle.llb_applet.specs.declared.command.Command.{Command}
 use Rattle.llb_applet.specs.declared.command.Command.TheVariants as command
 use Rattle.llb_loader.specs.declared.graph.Vertex.{Vertex}

@@ -4,9 +4,9 @@ use Rattle.std.specs.Prelude.{◌≡◌, ◌⊎◌, ℕ, suc, Bool, true, pos, L
 use Rattle.std.specs.List.{Contains}
 use Rattle.std.specs.FinMap as finite
 use Rattle.llb_ops.specs.declared.actions.CopyFile.{CopyFile}
-use Rattle.llb_ops.specs.declared.file.Action.{Action}
-use Rattle.llb_ops.specs.declared.file.ActionKind.TheVariants as action
-use Rattle.llb_ops.specs.declared.file.FileOp.{FileOp}
+use Rattle.llb_ops.specs.declared.file_op.Action.{Action}
+use Rattle.llb_ops.specs.declared.file_op.ActionKind.TheVariants as action
+use Rattle.llb_ops.specs.declared.file_op.FileOp.{FileOp}
 use Rattle.llb_ops.specs.declared.op.Kind.TheVariants as kind
 use Rattle.llb_tree.specs.Path.{is_within}
 use Rattle.llb_tree.specs.Tree.{TreeMap}

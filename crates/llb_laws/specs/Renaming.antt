@@ -9,7 +9,7 @@ use Rattle.llb_ops.specs.declared.op.Input.{Input}
 use Rattle.llb_ops.specs.Definition.{definition_of}
 use Rattle.llb_ops.specs.Messages.{op_of}
 use Rattle.llb_loader.specs.Graph.{Numbered}
-use Rattle.llb_loader.specs.Linking.{input_at}
+use Rattle.llb_loader.specs.GraphOfRows.{input_at}
 use Rattle.llb_loader.specs.LoadResult.{IsGraphIn}
 use Rattle.llb_loader.specs.LocalSources.{Local}
 use Rattle.llb_laws.specs.RenamedAndKeptSources.{HasTreesRenamed}

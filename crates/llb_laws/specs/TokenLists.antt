@@ -4,10 +4,10 @@ use Rattle.std.specs.Prelude.{◌≡◌, ◌+◌, ◌≤◌, ◌<◌, ℕ, Bool,
 use Rattle.llb_loader.specs.declared.graph.Vertex.{Vertex}
 use Rattle.llb_loader.specs.Graph.{Numbered}
 use Rattle.llb_loader.specs.LocalSources.{Local, local_name, tree_of_local}
-use Rattle.llb_model.specs.CacheBridge.{store_of}
+use Rattle.llb_model.specs.TwoCacheModels.{store_of}
 use Rattle.llb_model.specs.Caches.{Store}
 use Rattle.llb_board.specs.BoardValue.{BoardValue, opened}
-use Rattle.llb_laws.specs.declared.spelling.Reading.{Reading}
+use Rattle.llb_laws.specs.declared.token_expansion.Reading.{Reading}
 use Rattle.llb_laws.specs.AlikeTrees.{BothOptions, AreAlike}
 use Rattle.llb_laws.specs.ContentLaws.{ExpandsTo, spelled, spelled_from, IsLiteral}
 use Rattle.llb_laws.specs.TokenRuns.{HaveTokens, HaveAlikeRuns, StandsForContents, WritesNoMarkAtAll, with_locals}

@@ -2,7 +2,7 @@
 use Rattle.std.specs.Prelude.{◌≡◌, ◌⊎◌, ◌↔◌, ℕ, List, [], length, Bool, false, ◌||◌, ◌&&◌, is_some, slice_index_or}
 use Rattle.std.specs.List.{Contains, list_any}
 use Rattle.llb_ops.specs.declared.exec.Mount.{Mount}
-use Rattle.llb_applet.specs.declared.setting.Setting.{Setting}
+use Rattle.llb_applet.specs.declared.directory_and_variables.Setting.{Setting}
 use Rattle.llb_loader.specs.declared.graph.Vertex.{Vertex}
 use Rattle.llb_loader.specs.Mounts.{cache_in}
 use Rattle.llb_loader.specs.WaitingRows.{IsMarked}

@@ -8,7 +8,7 @@ use Rattle.llb_loader.specs.Graph.{Numbered, links}
 use Rattle.llb_loader.specs.LocalSources.{Local, local_name, tree_of_local}
 use Rattle.llb_events.specs.declared.event.Event.{Event}
 use Rattle.llb_model.specs.Caches.{Instance, Store, content, Has}
-use Rattle.llb_model.specs.CacheBridge.{store_of}
+use Rattle.llb_model.specs.TwoCacheModels.{store_of}
 use Rattle.llb_model.specs.Program.{Build, Need, needs_of, program_of}
 use Rattle.llb_model.specs.Outcome.{output_in}
 use Rattle.llb_model.specs.State.{State, opening, ending_at}

@@ -12,8 +12,8 @@ use Rattle.llb_model.specs.Outcome.{Ending, is_plain, outcome}
 use Rattle.llb_model.specs.State.{Settled}
 use Rattle.llb_board.specs.BoardValue.{BoardValue, opened}
 use Rattle.llb_board.specs.PlainVertexJobs.{plain_job}
-use Rattle.llb_board.specs.WalkAndUndo.{walk_of}
-use Rattle.llb_board.specs.declared.board.walk.Reply.{Reply}
+use Rattle.llb_board.specs.UndoableEvents.{walk_of}
+use Rattle.llb_board.specs.declared.board.undoable_event.Reply.{Reply}
 use Rattle.llb_board.specs.declared.fault.WalkFault.{WalkFault}
 use Rattle.llb_laws.specs.AlikeTrees.{BothLists}
 use Rattle.llb_laws.specs.BoardOutcomes.{EndAlike, KeepsPlain, output_on}

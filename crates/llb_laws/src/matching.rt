@@ -7,7 +7,7 @@ ghost use Rattle.llb_laws.specs.Definitions.{IsKindRewritten};
 ghost use Rattle.llb_laws.specs.MatchingMarks.{AreMarks, ArePartnersBy, HaveOneMark, IsFirstLike, IsLike, LoadMatched};
 ghost use Rattle.llb_laws.specs.Refusals.{IsRefusalOfTwo};
 
-use crate::graphs::{matched_vertices_end_alike, outcome_by_sources};
+use crate::two_graphs::{matched_vertices_end_alike, outcome_by_sources};
 use llb_loader::{Edge, Graph, LoadFault, Vertex, load};
 use llb_wire::{Memory, Same};
 use std::alloc::Global;

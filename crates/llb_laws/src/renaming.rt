@@ -13,7 +13,7 @@ ghost use Rattle.llb_laws.specs.Renaming.{AreInputsAlike, AreNamedAlike, AreNotR
 ghost use Rattle.llb_laws.specs.Refusals.{IsRefusalOfTwo};
 ghost use Rattle.llb_laws.specs.Renaming.{partner_in, renamed_by};
 
-use crate::graphs::rewritten_has_same_result;
+use crate::two_graphs::rewritten_has_same_result;
 use llb_loader::{Graph, LoadFault, load};
 use llb_ops::{Input, Kind, Op, OpFault, read_definition, read_op};
 use llb_wire::{Bytes, Memory, Same, Text, text_of_digest};

@@ -13,8 +13,8 @@ use Rattle.llb_ops.specs.declared.op.Op.{Op}
 use Rattle.llb_ops.specs.declared.op.Input.{Input}
 use Rattle.llb_ops.specs.declared.op.Kind.{Kind}
 use Rattle.llb_ops.specs.declared.op.Kind.TheVariants.{Exec, Source, File, Build, Merge, Diff}
-use Rattle.llb_ops.specs.declared.file.Action.{Action}
-use Rattle.llb_ops.specs.declared.file.ActionKind.{ActionKind}
+use Rattle.llb_ops.specs.declared.file_op.Action.{Action}
+use Rattle.llb_ops.specs.declared.file_op.ActionKind.{ActionKind}
 use Rattle.llb_ops.specs.declared.exec.Mount.{Mount}
 use Rattle.llb_ops.specs.OpsWithinLimits.{IsKindWithin, IsWithinLimits}
 use Rattle.llb_loader.specs.declared.graph.Edge.{Edge}
@@ -23,14 +23,14 @@ use Rattle.llb_loader.specs.Numbering.{rank_in}
 use Rattle.llb_loader.specs.ReachedRows.{inputs, HasEdge, Walk}
 use Rattle.llb_loader.specs.RowLookup.{row_at, row_named}
 use Rattle.llb_loader.specs.Features.{is_nameless, has, features, feature_of}
-use Rattle.llb_applet.specs.declared.join.Joined.{Joined}
+use Rattle.llb_applet.specs.declared.joined_commands.Joined.{Joined}
 use Rattle.llb_loader.specs.LocalSources.{behind}
 use Rattle.llb_loader.specs.Mounts.{secret, ssh, has_type}
 use Rattle.llb_loader.specs.Scripts.{kind_script, script_in}
 use Rattle.llb_loader.specs.Rules.{kind_steps, kind_outputs, is_output, owner_of, owner_by_name, outputs_of, mount_outputs, step_count}
 use Rattle.llb_loader.specs.Rules.{output_count, IsBelow, MeetsAll, MeetsRules, rules_on}
 use Rattle.llb_loader.specs.Graph.{links, LeadsBelow, IsEdgeOfInput, HasInputs, IsVertex, IsVertexOf, IsGraph}
-use Rattle.llb_loader.specs.Linking.{Plan, op_at, input_at, links_in, input_row, ReachedRow, HasInput, outputs_there, IsNamed, IsWhole, edge_of, vertex_of}
+use Rattle.llb_loader.specs.GraphOfRows.{Plan, op_at, input_at, links_in, input_row, ReachedRow, HasInput, outputs_there, IsNamed, IsWhole, edge_of, vertex_of}
 use Rattle.llb_loader.specs.VertexBuilding.{IsBuildable, AreBuilt, edge_at, vertex_at, edge_to}
 use Rattle.llb_loader.proofs.ReachabilitySearch.{reached_step}
 use Rattle.llb_loader.proofs.UniqueNumbering.{rank_at}

@@ -13,7 +13,7 @@ use Rattle.llb_loader.specs.declared.row.Row.{Row}
 use Rattle.llb_loader.specs.ReachedRows.{inputs, InRange, HasEdge, Walk, Reached}
 use Rattle.llb_loader.specs.Rules.{IsBelow}
 use Rattle.llb_loader.specs.RowLookup.{row_at, first_with, other_than, row_named, rows_named, graph_of}
-use Rattle.llb_loader.specs.Linking.{op_at}
+use Rattle.llb_loader.specs.GraphOfRows.{op_at}
 use Rattle.llb_loader.proofs.FirstRowOfDigest.{first_cases}
 use Rattle.llb_loader.proofs.OutputNumbers.{below_at}
 

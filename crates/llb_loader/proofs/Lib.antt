@@ -1,6 +1,6 @@
 pub mod RowReadsAndMarks
 pub mod ReachabilitySearch
-pub mod NumberingTurns
+pub mod NumberingSteps
 pub mod NextWaitingRow
 pub mod RowSets
 pub mod UniqueNumbering
@@ -15,9 +15,9 @@ pub mod PlanRefusals
 pub mod VertexBuildingLoop
 pub mod LocalTreeMaps
 pub mod BuiltGraphs
-pub mod LinkedRowRefusals
-pub mod BareRowBytes
-pub mod BareRowTransfers
+pub mod RefusalsOfRows
+pub mod BytesOfRows
+pub mod RefusalsWithoutBytes
 pub mod ResultUniqueness
 pub mod ScriptLengths
 pub mod ExecVertices

@@ -3,7 +3,7 @@ use Rattle.std.proofs.Common.{◌≡◌, ℕ, ◌<◌, List, [], pos, None, leng
 use Rattle.std.proofs.lemmas.List.{get_or_read}
 use Rattle.llb_ops.specs.declared.op.Op.{Op}
 use Rattle.llb_ops.specs.declared.op.Input.{Input}
-use Rattle.llb_loader.specs.Linking.{op_at, input_at}
+use Rattle.llb_loader.specs.GraphOfRows.{op_at, input_at}
 
 -- what is read at place k of the ops is op k
 pub op_read : (ops : List Op) (k : ℕ) (x : Op) → k < length ops → x ≡ get_or ops k x → op_at ops k ≡ x

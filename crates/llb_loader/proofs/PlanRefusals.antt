@@ -12,9 +12,9 @@ use Rattle.llb_loader.specs.ReachedRows.{inputs}
 use Rattle.llb_loader.specs.WaitingRows.{IsMarked}
 use Rattle.llb_loader.specs.RowLookup.{row_named, terminal_in}
 use Rattle.llb_loader.specs.Rules.{IsBelow, output_count}
-use Rattle.llb_loader.specs.Linking.{op_at, input_at, Plan, plan, links_in, input_row, ReachedRow, HasInput, outputs_there, IsBadIndex}
-use Rattle.llb_loader.specs.Linking.{Foremost, HasResult, IsStarted, IsNamed, IsOrdered, IsSupported, IsValid, start_in, IsPlanOf, Refuses}
-use Rattle.llb_loader.specs.Linking.{Refused}
+use Rattle.llb_loader.specs.GraphOfRows.{op_at, input_at, Plan, plan, links_in, input_row, ReachedRow, HasInput, outputs_there, IsBadIndex}
+use Rattle.llb_loader.specs.GraphOfRows.{Foremost, HasResult, IsStarted, IsNamed, IsOrdered, IsSupported, IsValid, start_in, IsPlanOf, Refuses}
+use Rattle.llb_loader.specs.GraphOfRows.{Refused}
 use Rattle.llb_loader.specs.ReachedRowChecks.{NamesAll, RefusesUnknown, RefusesFeature, RefusesRule, RefusesIndex, FitsAll, FirstBad, asked_of, count_there}
 use Rattle.llb_loader.proofs.InputRowPlaces.{named_below, in_range, graph_at, row_below, NamedAt, named_at}
 

@@ -22,11 +22,11 @@ use Rattle.llb_loader.specs.RowLookup.{row_at, AllSame, Collides, Least}
 use Rattle.llb_loader.specs.Features.{feature_of}
 use Rattle.llb_loader.specs.Rules.{MeetsAll, Breaks, BreaksFirst, rules_on}
 use Rattle.llb_loader.specs.Graph.{Numbered}
-use Rattle.llb_loader.specs.Linking.{Plan, plan_of, op_at, links_in, input_row, Foremost, IsApart, HasResult, IsStarted, IsNamed, IsOrdered}
-use Rattle.llb_loader.specs.Linking.{IsSupported, IsValid, IsWhole, IsUnknown, IsBadIndex, IsUnsupported, IsInvalid, Refuses, Refused, GraphOf}
-use Rattle.llb_loader.specs.Linking.{numbered_of}
+use Rattle.llb_loader.specs.GraphOfRows.{Plan, plan_of, op_at, links_in, input_row, Foremost, IsApart, HasResult, IsStarted, IsNamed, IsOrdered}
+use Rattle.llb_loader.specs.GraphOfRows.{IsSupported, IsValid, IsWhole, IsUnknown, IsBadIndex, IsUnsupported, IsInvalid, Refuses, Refused, GraphOf}
+use Rattle.llb_loader.specs.GraphOfRows.{numbered_of}
 use Rattle.llb_loader.specs.RowReading.{AreOps, IsUnread, RefusesRow}
-use Rattle.llb_loader.specs.LinkResult.{IsGraphOf, IsRefusalOf}
+use Rattle.llb_loader.specs.GraphOfRowsResult.{IsGraphOf, IsRefusalOf}
 use Rattle.llb_loader.specs.LoadResult.{rows_from}
 use Rattle.llb_loader.specs.UniqueResult.{HasOneAnswer, HasOneAnswerIn}
 use Rattle.llb_loader.proofs.UniqueNumbering.{one_numbering, numbering_down}

@@ -6,7 +6,7 @@ use Rattle.llb_loader.specs.declared.row.Row.{Row}
 use Rattle.llb_loader.specs.declared.graph.Vertex.{Vertex}
 use Rattle.llb_loader.specs.ReachedRows.{inputs}
 use Rattle.llb_loader.specs.RowLookup.{row_at}
-use Rattle.llb_loader.specs.Linking.{op_at}
+use Rattle.llb_loader.specs.GraphOfRows.{op_at}
 use Rattle.llb_loader.specs.VertexBuilding.{IsBuilt, AreBuilt, vertex_at}
 use Rattle.llb_loader.proofs.FirstRowOfDigest.{below_step}
 

@@ -1,7 +1,7 @@
 -- The results of the loader's calls, the loader's faults that report a fault of llb_ops, and the text of a fault.
 use Rattle.std.specs.Prelude.{ℕ, Bool, true, false, List, ◌++◌, Result, codes}
 use Rattle.std.specs.Fmt.{decimal}
-use Rattle.llb_wire.specs.Answer as answer
+use Rattle.llb_wire.specs.CallResults as answer
 use Rattle.llb_ops.specs.declared.fault.OpFault.{OpFault}
 use Rattle.llb_ops.specs.declared.fault.OpFault.TheVariants as op
 use Rattle.llb_applet.specs.CallResults.{script_text}

@@ -8,7 +8,7 @@ use Rattle.llb_loader.specs.declared.fault.Feature.{Feature}
 use Rattle.llb_loader.specs.declared.fault.Rule.{Rule}
 use Rattle.llb_loader.specs.ReachedRows.{inputs}
 use Rattle.llb_loader.specs.RowLookup.{row_named}
-use Rattle.llb_loader.specs.Linking.{op_at, input_at}
+use Rattle.llb_loader.specs.GraphOfRows.{op_at, input_at}
 use Rattle.llb_loader.specs.Features.{feature_of}
 use Rattle.llb_loader.specs.Rules.{MeetsRules, BreaksFirst, IsBelow}
 

@@ -7,7 +7,7 @@ use Rattle.llb_loader.specs.declared.row.Row.{Row}
 use Rattle.llb_loader.specs.declared.fault.LoadFault.{LoadFault}
 use Rattle.llb_loader.specs.declared.fault.LoadFault.TheVariants.{Entry}
 use Rattle.llb_loader.specs.RowLookup.{row_at}
-use Rattle.llb_loader.specs.Linking.{op_at}
+use Rattle.llb_loader.specs.GraphOfRows.{op_at}
 
 -- there is one op for each row, and row k is read as op k
 pub record AreOps (rows : List Row) (ops : List Op) : Type 0 where

@@ -12,10 +12,10 @@ use Rattle.llb_ops.specs.declared.exec.ExecOp.{ExecOp}
 use Rattle.llb_ops.specs.declared.exec.Meta.{Meta}
 use Rattle.llb_ops.specs.declared.exec.Mount.{Mount}
 use Rattle.llb_ops.specs.declared.exec.CacheOpt.{CacheOpt}
-use Rattle.llb_ops.specs.declared.file.Action.{Action}
-use Rattle.llb_ops.specs.declared.file.FileOp.{FileOp}
-use Rattle.llb_ops.specs.declared.file.ActionKind.{ActionKind}
-use Rattle.llb_ops.specs.declared.file.ActionKind.TheVariants.{Copy, MkFile, MkDir}
+use Rattle.llb_ops.specs.declared.file_op.Action.{Action}
+use Rattle.llb_ops.specs.declared.file_op.FileOp.{FileOp}
+use Rattle.llb_ops.specs.declared.file_op.ActionKind.{ActionKind}
+use Rattle.llb_ops.specs.declared.file_op.ActionKind.TheVariants.{Copy, MkFile, MkDir}
 use Rattle.llb_ops.specs.declared.owners.ChownOpt.{ChownOpt}
 use Rattle.llb_ops.specs.declared.owners.UserOpt.{UserOpt}
 use Rattle.llb_ops.specs.declared.owners.User.{User}

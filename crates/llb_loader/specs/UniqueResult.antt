@@ -3,7 +3,7 @@ use Rattle.std.specs.Prelude.{◌≡◌, ℕ, List}
 use Rattle.llb_loader.specs.declared.row.Row.{Row}
 use Rattle.llb_loader.specs.declared.fault.LoadFault.{LoadFault}
 use Rattle.llb_loader.specs.Graph.{Numbered}
-use Rattle.llb_loader.specs.LinkResult.{IsGraphOf, IsRefusalOf}
+use Rattle.llb_loader.specs.GraphOfRowsResult.{IsGraphOf, IsRefusalOf}
 use Rattle.llb_loader.specs.LoadResult.{IsGraphIn, IsRefusalIn}
 
 -- two graphs of these rows are equal, two refusals of these rows are equal, and these rows do not have both a graph and a refusal

@@ -9,7 +9,7 @@ use Rattle.llb_loader.specs.ReachedRows.{inputs}
 use Rattle.llb_loader.specs.Rules.{IsBelow, step_count, output_count}
 use Rattle.llb_loader.specs.Scripts.{script_in}
 use Rattle.llb_loader.specs.RowLookup.{row_at}
-use Rattle.llb_loader.specs.Linking.{op_at, input_at}
+use Rattle.llb_loader.specs.GraphOfRows.{op_at, input_at}
 
 -- edge i of a list; past the end, the edge to output 0 of vertex 0
 abbrev pub edge_at : List Edge → ℕ → Edge

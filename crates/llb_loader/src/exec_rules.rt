@@ -10,10 +10,10 @@ ghost use Rattle.llb_loader.specs.MountTypes.{number_of};
 ghost use Rattle.llb_loader.specs.RulesByKind.{IsFirstBroken, exec_rules, word_rules, path_rules, mount_rules, cache_rules, script_rules};
 
 use crate::cache_mounts::caches_apart;
+use crate::exec_paths::{all_there, cwd_reads, dests_apart, dests_of, has_root, selectors_read};
 use crate::fault::Rule;
 use crate::indices::{are_outputs, is_input};
 use crate::mount_type::MountType;
-use crate::paths::{all_there, cwd_reads, dests_apart, dests_of, has_root, selectors_read};
 use llb_applet::{ScriptFault, read_script};
 use llb_ops::{CacheOpt, ExecOp, Input, Mount};
 use llb_wire::Memory;

@@ -16,41 +16,41 @@
 //!     Some(vertex.steps)
 #![tactic(auto)]
 
-mod build;
 mod cache_key;
 pub mod cache_mounts;
-mod checks;
 pub mod digest;
+pub mod exec_paths;
 pub mod exec_rules;
 mod fault;
 pub mod features;
 pub mod file_rules;
 mod graph;
+pub mod graph_of_rows;
 pub mod indices;
 mod laws;
-pub mod linking;
 mod loading;
-mod locals;
-mod missing;
+mod local_trees;
+mod missing_trees;
 mod mount_type;
 mod mounts;
 pub mod numbering;
+mod op_reading;
 pub mod op_sizes;
-pub mod paths;
-mod ranks;
-pub mod reach;
-mod reading;
+mod reached_row_checks;
+pub mod reached_rows;
 mod row;
 pub mod row_lookup;
 pub mod rules;
+mod vertex_building;
+mod vertex_numbers;
 
 pub use fault::{Feature, LoadFault, Memory, Rule};
 pub use graph::{Edge, Graph, Vertex};
+pub use graph_of_rows::link;
 pub use laws::{numbering_goes_down, one_answer, one_answer_in, one_numbering};
-pub use linking::link;
 pub use loading::{load, load_owned};
-pub use locals::Locals;
-pub use missing::missing_local;
+pub use local_trees::Locals;
+pub use missing_trees::missing_local;
 pub use mount_type::MountType;
 pub use mounts::{cache_in, mounts_of};
 pub use row::Row;

@@ -2,14 +2,14 @@
 
 ghost use Rattle.std.specs.Prelude.{◌≡◌, ◌≤◌, false, length, IfOk, IfErr};
 ghost use Rattle.llb_loader.specs.Faults.{is_memory};
-ghost use Rattle.llb_loader.specs.LinkResult.{IsGraphOf, IsRefusalOf};
+ghost use Rattle.llb_loader.specs.GraphOfRowsResult.{IsGraphOf, IsRefusalOf};
 ghost use Rattle.llb_loader.specs.LoadResult.{IsGraphIn, IsRefusalIn, rows_from};
-ghost use Rattle.llb_loader.specs.BareRows.{titles_from};
+ghost use Rattle.llb_loader.specs.RowsWithoutBytes.{titles_from};
 
 use crate::digest::digest_of;
 use crate::fault::LoadFault;
 use crate::graph::Graph;
-use crate::linking::link_entries;
+use crate::graph_of_rows::link_entries;
 use crate::row::Row;
 use llb_ops::{Entries, read_definition};
 use llb_wire::{Bytes, Memory};

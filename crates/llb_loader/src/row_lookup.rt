@@ -5,9 +5,9 @@ ghost use Rattle.std.specs.Prelude.{◌≡◌, ◌<◌, ◌≤◌, ◌↔◌, �
 ghost use Rattle.std.specs.List.{filter_map};
 ghost use Rattle.llb_loader.specs.Faults.{is_memory};
 ghost use Rattle.llb_loader.specs.RowLookup.{AllSame, AreFirsts, Collides, IsIndex, IsTerminal, terminal_in, row_named, rows_named, graph_of, RefusesCollision};
-ghost use Rattle.llb_loader.specs.BareRows.{with_bytes};
+ghost use Rattle.llb_loader.specs.RowsWithoutBytes.{with_bytes};
 ghost use Rattle.llb_loader.specs.ReachedRows.{lists};
-ghost use Rattle.llb_loader.specs.Linking.{input_at};
+ghost use Rattle.llb_loader.specs.GraphOfRows.{input_at};
 ghost use Rattle.llb_loader.specs.ReachedRowChecks.{RefusesStart};
 
 use crate::fault::LoadFault;

@@ -6,7 +6,7 @@ use Rattle.std.specs.List.{list_any}
 use Rattle.std.specs.Ordering.{eq_by_cmp}
 use Rattle.std.specs.FinMap as finite
 use Rattle.std.specs.FinMap.Entries.{where_key, find-where_key}
-use Rattle.llb_tree.specs.Meta.{new_dir_meta}
+use Rattle.llb_tree.specs.ModeAndOwner.{new_dir_meta}
 use Rattle.llb_tree.specs.Path.{path_cmp}
 use Rattle.llb_tree.specs.PathOrder.{path_cmp-IsTotalOrder, path_cmp-IsAntisymmetric}
 use Rattle.llb_tree.specs.Tree.{Entry, Dir, File, TreeMap, Look, parents, all_dirs, walk, IsDirAt, IsAllowedAt, IsTree, empty_tree}

@@ -4,7 +4,7 @@
 
 ghost use Rattle.std.specs.Prelude.{◌≡◌, List, [], ℕ};
 ghost use Rattle.std.specs.FinMap as finite;
-ghost use Rattle.llb_tree.specs.Meta.{new_dir_meta};
+ghost use Rattle.llb_tree.specs.ModeAndOwner.{new_dir_meta};
 ghost use Rattle.llb_tree.specs.Tree.{IsTree, empty_tree, Dir};
 ghost use Rattle.llb_merge.specs.Laying.{lay, lay_at};
 

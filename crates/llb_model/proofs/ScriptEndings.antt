@@ -7,11 +7,11 @@ use Rattle.std.proofs.Math.Bool.{or-true, or-false, and-false}
 use Rattle.std.proofs.lemmas.List.{drop_all}
 use Rattle.std.proofs.lemmas.Option.{slice_get-map}
 use Rattle.llb_applet.specs.Commands.{run}
-use Rattle.llb_applet.specs.declared.join.Join.{Join}
-use Rattle.llb_applet.specs.declared.join.Join.TheVariants.{Then, And, Or}
-use Rattle.llb_applet.specs.declared.join.Joined.{Joined}
-use Rattle.llb_applet.specs.declared.setting.Setting.{Setting}
-use Rattle.llb_mount.specs.declared.shown.Shown.{Shown}
+use Rattle.llb_applet.specs.declared.joined_commands.Join.{Join}
+use Rattle.llb_applet.specs.declared.joined_commands.Join.TheVariants.{Then, And, Or}
+use Rattle.llb_applet.specs.declared.joined_commands.Joined.{Joined}
+use Rattle.llb_applet.specs.declared.directory_and_variables.Setting.{Setting}
+use Rattle.llb_mount.specs.declared.shown_tree.Shown.{Shown}
 use Rattle.llb_tree.specs.Tree.{TreeMap}
 use Rattle.llb_events.specs.declared.fault.VertexFault.{VertexFault}
 use Rattle.llb_events.specs.declared.fault.VertexFault.TheVariants as fault

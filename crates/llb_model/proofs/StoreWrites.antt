@@ -10,7 +10,7 @@ use Rattle.std.specs.FinMap as finite
 use Rattle.std.specs.FinMap.{IsAntisymmetric, nat_cmp-IsAntisymmetric}
 use Rattle.llb_cache.specs.KeyOrder.{key_cmp}
 use Rattle.llb_cache.proofs.KeyOrder.{key_cmp-IsTotalOrder, tie_is_same}
-use Rattle.llb_cache.specs.LawsOfKeys.{same_keys}
+use Rattle.llb_cache.specs.KeyEquality.{same_keys}
 use Rattle.llb_tree.specs.Tree.{TreeMap, empty_tree}
 use Rattle.llb_model.specs.Caches.{Instance, place_cmp, Store, content, put, put_all, trees_at, Hold, Has, Distinct, is_in}
 

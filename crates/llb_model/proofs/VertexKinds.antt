@@ -2,8 +2,8 @@
 use Rattle.std.proofs.Common.{◌≡◌, ℕ, suc, ◌<◌, ◌^◌, List, [], ◌∷◌, length, refl, sym, ap, subst, ◌∙◌, arith}
 use Rattle.std.specs.Prelude.{Option, Some, None, slice_get, unwrap_or}
 use Rattle.std.proofs.lemmas.Option.{slice_get_within, get_or_from_slice_get}
-use Rattle.llb_applet.specs.declared.join.Joined.{Joined}
-use Rattle.llb_applet.specs.declared.setting.Setting.{Setting}
+use Rattle.llb_applet.specs.declared.joined_commands.Joined.{Joined}
+use Rattle.llb_applet.specs.declared.directory_and_variables.Setting.{Setting}
 use Rattle.llb_ops.specs.declared.op.Kind.{Kind}
 use Rattle.llb_ops.specs.declared.op.Kind.TheVariants as kind
 use Rattle.llb_ops.specs.declared.merge.MergeInput.{MergeInput}

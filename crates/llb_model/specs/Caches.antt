@@ -6,7 +6,7 @@ use Rattle.std.specs.declared.cmp.Ordering.{Ordering}
 use Rattle.std.specs.FinMap as finite
 use Rattle.std.specs.FinMap.{FinMap}
 use Rattle.llb_cache.specs.KeyOrder.{key_cmp}
-pub use Rattle.llb_cache.specs.declared.need.Instance.{Instance}
+pub use Rattle.llb_cache.specs.declared.lease_needs.Instance.{Instance}
 pub use Rattle.llb_cache.specs.Caches.{place, IsExclusive}
 use Rattle.llb_tree.specs.Tree.{TreeMap, empty_tree}
 

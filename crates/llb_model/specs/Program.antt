@@ -3,7 +3,7 @@ use Rattle.std.specs.Prelude.{ℕ, zero, suc, ◌+◌, ◌==◌, ℤ, pos, negsu
 use Rattle.std.specs.Prelude.{option_map, unwrap_or, slice_get, Result, Ok, Err, if◌then◌else◌}
 use Rattle.std.specs.List.{list_any, list_all, range_with_len}
 use Rattle.std.specs.Ordering.{int_eq}
-use Rattle.llb_ops.specs.declared.file.Action.{Action}
+use Rattle.llb_ops.specs.declared.file_op.Action.{Action}
 use Rattle.llb_cache.specs.declared.key.Key.{Key}
 use Rattle.llb_cache.specs.declared.key.Seed.{Seed}
 use Rattle.llb_cache.specs.declared.key.Mode.{Mode}
@@ -17,12 +17,12 @@ use Rattle.llb_ops.specs.declared.exec.Mount.{Mount}
 use Rattle.llb_loader.specs.Mounts as mounts
 use Rattle.llb_loader.specs.Mounts.{bind, cache, tmpfs, has_type, read_as, CacheKey}
 use Rattle.llb_loader.specs.Rules.{kind_mounts, mount_outputs}
-use Rattle.llb_mount.specs.declared.shown.Shown.{Shown}
+use Rattle.llb_mount.specs.declared.shown_tree.Shown.{Shown}
 use Rattle.llb_mount.specs.View.{mount_at, with_tree_of}
-use Rattle.llb_applet.specs.declared.setting.Setting.{Setting}
-use Rattle.llb_applet.specs.declared.join.Join.{Join}
-use Rattle.llb_applet.specs.declared.join.Join.TheVariants.{Then, And, Or}
-use Rattle.llb_applet.specs.declared.join.Joined.{Joined}
+use Rattle.llb_applet.specs.declared.directory_and_variables.Setting.{Setting}
+use Rattle.llb_applet.specs.declared.joined_commands.Join.{Join}
+use Rattle.llb_applet.specs.declared.joined_commands.Join.TheVariants.{Then, And, Or}
+use Rattle.llb_applet.specs.declared.joined_commands.Joined.{Joined}
 use Rattle.llb_applet.specs.Commands.{run, status_of}
 use Rattle.llb_loader.specs.Graph.{Numbered}
 use Rattle.llb_loader.specs.LocalSources.{Local, local_name, tree_of_local}

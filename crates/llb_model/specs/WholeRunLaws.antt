@@ -6,10 +6,10 @@ use Rattle.llb_cache.specs.declared.key.Mode.TheVariants.{Locked}
 use Rattle.llb_ops.specs.declared.exec.ExecOp.{ExecOp}
 use Rattle.llb_ops.specs.declared.op.Kind.TheVariants as kind
 use Rattle.llb_loader.specs.declared.graph.Vertex.{Vertex}
-use Rattle.llb_applet.specs.declared.join.Join.TheVariants.{Then}
-use Rattle.llb_applet.specs.declared.join.Joined.{Joined}
-use Rattle.llb_applet.specs.declared.setting.Setting.{Setting}
-use Rattle.llb_mount.specs.declared.shown.Shown.{Shown}
+use Rattle.llb_applet.specs.declared.joined_commands.Join.TheVariants.{Then}
+use Rattle.llb_applet.specs.declared.joined_commands.Joined.{Joined}
+use Rattle.llb_applet.specs.declared.directory_and_variables.Setting.{Setting}
+use Rattle.llb_mount.specs.declared.shown_tree.Shown.{Shown}
 use Rattle.llb_tree.specs.Tree.{TreeMap}
 use Rattle.llb_model.specs.Caches.{Instance, place, Store, content, put, Hold, Has, Distinct, IsExclusive}
 use Rattle.llb_events.specs.declared.fault.VertexFault.{VertexFault}

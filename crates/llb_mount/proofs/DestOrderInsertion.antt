@@ -6,8 +6,8 @@ use Rattle.std.proofs.lemmas.Bool.{cases_lt}
 use Rattle.std.proofs.lemmas.List.{get_or_default, length-map}
 use Rattle.std.proofs.lemmas.List.Edits.{length-insert, get_or-insert_below, get_or-insert_at, get_or-insert_above}
 use Rattle.std.specs.List.{AllPairs}
-use Rattle.llb_mount.specs.declared.order.Row.{Row}
-use Rattle.llb_mount.specs.declared.shown.Shown.{Shown}
+use Rattle.llb_mount.specs.declared.dest_order.Row.{Row}
+use Rattle.llb_mount.specs.declared.shown_tree.Shown.{Shown}
 use Rattle.llb_mount.specs.View.{dests, mount_at, no_mount}
 use Rattle.llb_mount.specs.DestOrder.{no_row, mount_of, dest_of, is_before, Rises, HasFirst, IsPlace, AtRoot}
 use Rattle.llb_mount.proofs.PathOrderPrefixes.{never, chain, comes_before, none_before_root}

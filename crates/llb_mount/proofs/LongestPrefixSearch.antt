@@ -5,8 +5,8 @@ use Rattle.std.proofs.Math.ListN.{get_or-map}
 use Rattle.std.proofs.lemmas.Bool.{cases_lt}
 use Rattle.std.proofs.lemmas.List.{get_or-set_same, get_or-set_other, get_or_default, length-map, length-set}
 use Rattle.llb_tree.specs.Path.{is_within}
-use Rattle.llb_mount.specs.declared.order.Row.{Row}
-use Rattle.llb_mount.specs.declared.shown.Shown.{Shown}
+use Rattle.llb_mount.specs.declared.dest_order.Row.{Row}
+use Rattle.llb_mount.specs.declared.shown_tree.Shown.{Shown}
 use Rattle.llb_mount.specs.View.{dests, mount_at, no_mount}
 use Rattle.llb_mount.specs.Route.{IsRoute}
 use Rattle.llb_mount.specs.DestOrder.{no_row, mount_of, above_of, dest_of, is_before, Rises, HasFirst, IsPlace, AtRoot, IsAbove, Climbs, IsNear, IsOrder}

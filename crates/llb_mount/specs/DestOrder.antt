@@ -2,7 +2,7 @@
 use Rattle.std.specs.Prelude.{◌≡◌, ℕ, ◌<◌, ◌≤◌, Bool, true, false, List, [], length, slice_index_or}
 use Rattle.std.specs.Ordering.{is_lt}
 use Rattle.llb_tree.specs.Path.{path_cmp, is_within}
-use Rattle.llb_mount.specs.declared.order.Row.{Row}
+use Rattle.llb_mount.specs.declared.dest_order.Row.{Row}
 
 -- the row that `mount_of` and `above_of` use for a position that has no row
 abbrev pub no_row : Row

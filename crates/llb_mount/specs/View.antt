@@ -2,7 +2,7 @@
 -- A view changes only in that one of its mounts gets another tree.
 use Rattle.std.specs.Prelude.{◌≢◌, ℕ, ◌<◌, ◌^◌, false, List, [], map, length, slice_index_or, slice_set, Contains, AllPairs}
 use Rattle.llb_tree.specs.Tree.{TreeMap, empty_tree}
-use Rattle.llb_mount.specs.declared.shown.Shown.{Shown}
+use Rattle.llb_mount.specs.declared.shown_tree.Shown.{Shown}
 
 -- the dests of the mounts, by number
 abbrev pub dests : List Shown → List (List (List ℕ))

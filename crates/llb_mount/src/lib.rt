@@ -14,13 +14,13 @@
 //!     Some(view.route(&Path::read(alloc, "/src/a").ok()?).0)
 #![tactic(auto)]
 
+mod dest_order;
 mod fault;
-mod order;
-mod shown;
+mod shown_tree;
 mod view;
 
 pub use fault::{Memory, ReadOnly};
 pub use llb_tree::{Path, Tree};
 pub use llb_wire::Many;
-pub use shown::Shown;
+pub use shown_tree::Shown;
 pub use view::View;

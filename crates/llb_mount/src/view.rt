@@ -7,9 +7,9 @@ ghost use Rattle.std.specs.Arc.{arc_value};
 ghost use Rattle.llb_mount.specs.Route.{IsRoute, route};
 ghost use Rattle.llb_mount.specs.DestOrder.{IsOrder};
 
+use crate::dest_order::{Row, ordered, route_by};
 use crate::fault::{Memory, ReadOnly};
-use crate::order::{Row, ordered, route_by};
-use crate::shown::Shown;
+use crate::shown_tree::Shown;
 use llb_tree::{Name, Path, Tree};
 use llb_wire::{Many, Same, all_same};
 use std::marker::Model;
@@ -40,7 +40,7 @@ impl Model for View {
     ghost use Rattle.std.specs.Prelude.{List, IfSome};
     ghost use Rattle.std.specs.Arc.{arc_value};
     ghost use Rattle.llb_tree.specs.CodedTrees.{coded_tree};
-    ghost use Rattle.llb_mount.specs.declared.shown.Shown.{Shown};
+    ghost use Rattle.llb_mount.specs.declared.shown_tree.Shown.{Shown};
     ghost use Rattle.llb_mount.specs.View.{IsView, dests};
     ghost use Rattle.llb_mount.specs.DestOrder.{IsOrder};
 

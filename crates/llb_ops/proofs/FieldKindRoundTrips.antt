@@ -6,13 +6,13 @@ use Rattle.std.specs.List.{AllByRecursion}
 use Rattle.std.specs.Bool.{◌==◌, if◌then◌else◌}
 use Rattle.std.proofs.lemmas.Bool.{eqb-true, ne_eqb, ltb-true, leb-true}
 use Rattle.std.proofs.lemmas.List.{append-nil, length-append, length-map}
-use Rattle.llb_wire.specs.Answer.{◌>>=◌}
+use Rattle.llb_wire.specs.CallResults.{◌>>=◌}
 use Rattle.llb_wire.proofs.RuleComposition.{bind_ok}
 use Rattle.llb_wire.specs.declared.field.Wire.TheVariants as wire
 use Rattle.llb_wire.specs.Spelling.{varint_text}
 use Rattle.llb_wire.specs.Records.{Record}
 use Rattle.llb_ops.specs.declared.fault.OpFault.{OpFault}
-use Rattle.llb_ops.specs.declared.shape.Form.TheVariants as form
+use Rattle.llb_ops.specs.declared.payloads_and_limits.Form.TheVariants as form
 use Rattle.llb_ops.specs.Limits.{field_limit}
 use Rattle.llb_ops.specs.Records.{Shape, form_of, wire_fits, text_ok, all, is_member, number, payload, payloads, joined, one, each}
 use Rattle.llb_ops.specs.Writing.{number_field, bytes_field, set_number, set_bytes, message_field, messages_field, each_field}

@@ -3,7 +3,7 @@ use Rattle.std.proofs.Common.{◌≡◌, ℕ, ℤ, ◌<◌, ◌^◌, Bool, true,
 use Rattle.std.specs.Bool.{◌==◌}
 use Rattle.std.proofs.lemmas.Bool.{le-ltb}
 use Rattle.std.proofs.lemmas.List.{append-nil}
-use Rattle.llb_wire.specs.Answer.{◌>>=◌}
+use Rattle.llb_wire.specs.CallResults.{◌>>=◌}
 use Rattle.llb_wire.proofs.RuleComposition.{bind_ok}
 use Rattle.llb_wire.specs.Records.{Record}
 use Rattle.llb_ops.specs.declared.fault.OpFault.{OpFault}
@@ -12,10 +12,10 @@ use Rattle.llb_ops.specs.declared.op.Op.{Op}
 use Rattle.llb_ops.specs.declared.op.Kind.{Kind}
 use Rattle.llb_ops.specs.declared.op.Kind.TheVariants.{Exec, Source, File, Build, Merge, Diff}
 use Rattle.llb_ops.specs.declared.op.Input.{Input}
-use Rattle.llb_ops.specs.declared.file.FileOp.{FileOp}
-use Rattle.llb_ops.specs.declared.file.Action.{Action}
-use Rattle.llb_ops.specs.declared.file.ActionKind.{ActionKind}
-use Rattle.llb_ops.specs.declared.file.ActionKind.TheVariants as action
+use Rattle.llb_ops.specs.declared.file_op.FileOp.{FileOp}
+use Rattle.llb_ops.specs.declared.file_op.Action.{Action}
+use Rattle.llb_ops.specs.declared.file_op.ActionKind.{ActionKind}
+use Rattle.llb_ops.specs.declared.file_op.ActionKind.TheVariants as action
 use Rattle.llb_ops.specs.declared.actions.MkFile.{MkFile}
 use Rattle.llb_ops.specs.declared.actions.MkDir.{MkDir}
 use Rattle.llb_ops.specs.declared.actions.CopyFile.{CopyFile}

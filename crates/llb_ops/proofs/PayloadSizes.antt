@@ -8,7 +8,7 @@ use Rattle.llb_wire.specs.declared.field.Field.{Field}
 use Rattle.llb_wire.specs.Reading.{field_at}
 use Rattle.llb_wire.specs.Records.{Record, record_of}
 use Rattle.llb_wire.proofs.RecordsFromOwnBytes.{field_local}
-use Rattle.llb_wire.specs.Answer.{◌>>=◌}
+use Rattle.llb_wire.specs.CallResults.{◌>>=◌}
 use Rattle.llb_wire.proofs.RuleComposition.{bind_ok}
 use Rattle.llb_ops.specs.declared.fault.OpFault.TheVariants.{WrongWireType, NotUtf8}
 use Rattle.llb_ops.specs.Records.{Shape, from_wire, first_record, form_of, wire_fits, records_from, texts_fit, parts, all, payloads, joined}

@@ -5,7 +5,7 @@ use Rattle.std.specs.List.{AllByRecursion, flat_map}
 use Rattle.std.proofs.lemmas.Bool.{le-ltb}
 use Rattle.std.proofs.lemmas.List.{length-append, drop_at}
 use Rattle.llb_wire.specs.declared.field.Field.{Field}
-use Rattle.llb_wire.specs.Answer.{◌>>=◌}
+use Rattle.llb_wire.specs.CallResults.{◌>>=◌}
 use Rattle.llb_wire.proofs.RuleComposition.{bind_ok}
 use Rattle.llb_wire.specs.Reading.{field_at}
 use Rattle.llb_wire.specs.Spelling.{AreBytes}

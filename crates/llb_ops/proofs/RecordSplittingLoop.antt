@@ -9,7 +9,7 @@ use Rattle.llb_wire.specs.Reading.{field_at, next_field, IsWithin}
 use Rattle.llb_wire.specs.Records.{Record, record_of}
 use Rattle.llb_ops.specs.declared.fault.OpFault.{OpFault}
 use Rattle.llb_ops.specs.declared.fault.OpFault.TheVariants.{Wire, WrongWireType}
-use Rattle.llb_wire.specs.Answer.{◌>>=◌}
+use Rattle.llb_wire.specs.CallResults.{◌>>=◌}
 use Rattle.llb_ops.specs.declared.records.Front.{Front}
 use Rattle.llb_ops.specs.Records.{Shape, view, form_of, wire_fits, records_from, IsFront}
 

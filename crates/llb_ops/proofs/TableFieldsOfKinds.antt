@@ -6,12 +6,12 @@ use Rattle.std.specs.List.{AllByRecursion}
 use Rattle.std.proofs.lemmas.Bool.{ne_eqb}
 use Rattle.std.proofs.lemmas.List.{append-nil, map-append}
 use Rattle.std.proofs.lemmas.List.Concat.{flat_map-append}
-use Rattle.llb_wire.specs.Answer.{◌>>=◌}
+use Rattle.llb_wire.specs.CallResults.{◌>>=◌}
 use Rattle.llb_wire.proofs.RuleComposition.{bind_ok}
 use Rattle.llb_wire.specs.declared.field.Wire.TheVariants as wire
 use Rattle.llb_wire.specs.Records.{Record}
 use Rattle.llb_ops.specs.declared.fault.OpFault.{OpFault}
-use Rattle.llb_ops.specs.declared.shape.Form.TheVariants as form
+use Rattle.llb_ops.specs.declared.payloads_and_limits.Form.TheVariants as form
 use Rattle.llb_ops.specs.declared.table.MessageName.{MessageName}
 use Rattle.llb_ops.specs.declared.table.FieldKind.TheVariants.{Message, Int64, Int32, Bool as Flag}
 use Rattle.llb_ops.specs.Table.{Row, once, rows_of, by_number, shape_of}

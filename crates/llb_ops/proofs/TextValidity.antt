@@ -7,8 +7,8 @@ use Rattle.std.specs.List.{AllByRecursion}
 use Rattle.std.proofs.lemmas.Bool.{eqb-true}
 use Rattle.std.proofs.lemmas.Str.{IsUtf8-from_is_utf8, is_utf8-from_IsUtf8}
 use Rattle.llb_wire.specs.Records.{Record}
-use Rattle.llb_ops.specs.declared.shape.Form.{Form}
-use Rattle.llb_ops.specs.declared.shape.Form.TheVariants as form
+use Rattle.llb_ops.specs.declared.payloads_and_limits.Form.{Form}
+use Rattle.llb_ops.specs.declared.payloads_and_limits.Form.TheVariants as form
 use Rattle.llb_ops.specs.declared.records.Record.{Record as Held}
 use Rattle.llb_ops.specs.Records.{Shape, view, views, form_of, text_ok, text_fits, texts_fit, all, last_of, payload}
 use Rattle.llb_ops.proofs.RecordsByFieldNumber.{and_both}

@@ -1,11 +1,11 @@
 -- Whether bytes are records of fields that the message doesn't name, as a loop finds it.
 use Rattle.std.proofs.Common.{◌≡◌, ℕ, Bool, true, false, cond, List, [], ◌∷◌, Option, Some, None, Result, Ok, Err, refl, sym, ap, ◌∙◌}
 use Rattle.std.specs.Prelude.{is_none, ◌&&◌, if◌then◌else◌}
-use Rattle.llb_wire.specs.Answer.{◌>>=◌}
+use Rattle.llb_wire.specs.CallResults.{◌>>=◌}
 use Rattle.llb_wire.specs.Records.{Record}
 use Rattle.llb_ops.specs.declared.fault.OpFault.{OpFault}
 use Rattle.llb_ops.specs.declared.fault.OpFault.TheVariants.{NotUtf8}
-use Rattle.llb_ops.specs.declared.shape.Form.{Form}
+use Rattle.llb_ops.specs.declared.payloads_and_limits.Form.{Form}
 use Rattle.llb_ops.specs.declared.table.MessageName.{MessageName}
 use Rattle.llb_ops.specs.Table.{shape_of}
 use Rattle.llb_ops.specs.Records.{form_of, text_ok, text_fits, texts_fit, parts, records_from}

@@ -1,6 +1,6 @@
 -- The results of the calls on messages, and the text of a fault.
 use Rattle.std.specs.Prelude.{ℕ, Bool, true, false, List, Result, codes}
-use Rattle.llb_wire.specs.Answer as answer
+use Rattle.llb_wire.specs.CallResults as answer
 use Rattle.llb_wire.specs.Faults.{wire_text}
 use Rattle.llb_ops.specs.declared.fault.OpFault.{OpFault}
 use Rattle.llb_ops.specs.declared.fault.OpFault.TheVariants.{Wire, WrongWireType, NotUtf8, OverLimit, Memory}

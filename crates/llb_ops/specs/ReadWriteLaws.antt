@@ -1,6 +1,6 @@
 -- Laws that relate reading and writing.
 use Rattle.std.specs.Prelude.{◌≡◌, ℕ, ◌≤◌, List, length, Ok}
-use Rattle.llb_wire.specs.Answer.{◌>>=◌}
+use Rattle.llb_wire.specs.CallResults.{◌>>=◌}
 use Rattle.llb_wire.specs.Spelling.{AreBytes}
 use Rattle.llb_wire.specs.Records.{Record, SpellRecords}
 use Rattle.llb_ops.specs.declared.op.Op.{Op}

@@ -7,7 +7,7 @@ use Rattle.std.specs.List.{list_all, list_any, flat_map}
 use Rattle.std.specs.Str.{is_utf8}
 use Rattle.std.specs.Option.{option_map_or}
 use Rattle.std.specs.Int.{w32, w64, cast_signed}
-use Rattle.llb_wire.specs.Answer.{◌>>=◌}
+use Rattle.llb_wire.specs.CallResults.{◌>>=◌}
 use Rattle.llb_wire.specs.declared.fault.WireFault.{WireFault}
 use Rattle.llb_wire.specs.declared.field.Wire.{Wire as WireType}
 use Rattle.llb_wire.specs.declared.field.Wire.TheVariants as wire
@@ -16,8 +16,8 @@ use Rattle.llb_wire.specs.Reading.{field_at}
 use Rattle.llb_wire.specs.Records.{Record, record_of}
 use Rattle.llb_ops.specs.declared.fault.OpFault.{OpFault}
 use Rattle.llb_ops.specs.declared.fault.OpFault.TheVariants.{Wire, WrongWireType, NotUtf8}
-use Rattle.llb_ops.specs.declared.shape.Form.{Form}
-use Rattle.llb_ops.specs.declared.shape.Form.TheVariants.{Number, Bytes, Text}
+use Rattle.llb_ops.specs.declared.payloads_and_limits.Form.{Form}
+use Rattle.llb_ops.specs.declared.payloads_and_limits.Form.TheVariants.{Number, Bytes, Text}
 use Rattle.llb_ops.specs.declared.records.Record.{Record as Held}
 use Rattle.llb_ops.specs.declared.records.Front.{Front}
 use Rattle.llb_ops.specs.Limits.{field_limit}

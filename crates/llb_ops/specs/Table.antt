@@ -3,8 +3,8 @@
 use Rattle.std.specs.Prelude.{◌≡◌, ℕ, List, [], ◌∷◌, map, find, filter, codes, Option, Some, true, false, nat_eq, ◌==◌}
 use Rattle.std.specs.List.{AllByRecursion}
 use Rattle.std.specs.Cmp.Lexicographic.{pointwise}
-use Rattle.llb_ops.specs.declared.shape.Form.{Form}
-use Rattle.llb_ops.specs.declared.shape.Form.TheVariants as form
+use Rattle.llb_ops.specs.declared.payloads_and_limits.Form.{Form}
+use Rattle.llb_ops.specs.declared.payloads_and_limits.Form.TheVariants as form
 use Rattle.llb_ops.specs.declared.table.MessageName.{MessageName}
 use Rattle.llb_ops.specs.declared.table.MessageName.TheVariants as message
 use Rattle.llb_ops.specs.declared.table.FieldKind.{FieldKind}

@@ -10,10 +10,10 @@ use Rattle.llb_ops.specs.declared.op.Op.{Op}
 use Rattle.llb_ops.specs.declared.op.Kind.{Kind}
 use Rattle.llb_ops.specs.declared.op.Kind.TheVariants.{Exec, Source, File, Build, Merge, Diff}
 use Rattle.llb_ops.specs.declared.op.Input.{Input}
-use Rattle.llb_ops.specs.declared.file.FileOp.{FileOp}
-use Rattle.llb_ops.specs.declared.file.Action.{Action}
-use Rattle.llb_ops.specs.declared.file.ActionKind.{ActionKind}
-use Rattle.llb_ops.specs.declared.file.ActionKind.TheVariants as action
+use Rattle.llb_ops.specs.declared.file_op.FileOp.{FileOp}
+use Rattle.llb_ops.specs.declared.file_op.Action.{Action}
+use Rattle.llb_ops.specs.declared.file_op.ActionKind.{ActionKind}
+use Rattle.llb_ops.specs.declared.file_op.ActionKind.TheVariants as action
 use Rattle.llb_ops.specs.declared.actions.MkFile.{MkFile}
 use Rattle.llb_ops.specs.declared.actions.MkDir.{MkDir}
 use Rattle.llb_ops.specs.declared.actions.CopyFile.{CopyFile}

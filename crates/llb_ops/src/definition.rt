@@ -1,7 +1,7 @@
 //! Reads and writes a definition as a list of entries. `read_op` reads the op of an entry.
 
 ghost use Rattle.std.specs.Prelude.{◌≡◌, ◌<◌, ◌≤◌, ◌==◌, ◌++◌, ◌∷◌, [], if◌then◌else◌, Ok, length, true, IfOk, OnOk};
-ghost use Rattle.llb_wire.specs.Answer.{MemoryLast};
+ghost use Rattle.llb_wire.specs.CallResults.{MemoryLast};
 ghost use Rattle.llb_ops.specs.Faults.{Gives, is_memory};
 ghost use Rattle.llb_ops.specs.Records.{view};
 ghost use Rattle.llb_ops.specs.Definition.{definition_of, admission, entries_in, counted, one_more, definition_bytes};
@@ -9,8 +9,8 @@ ghost use Rattle.llb_ops.specs.OpsWithinLimits.{AreWithinLimits};
 ghost use Rattle.llb_ops.specs.ReadWriteLaws.{AreReadAgain};
 
 use crate::fault::OpFault;
+use crate::payloads_and_limits::{DEFINITION_LIMIT, ENTRIES_LIMIT, ENTRY_LIMIT};
 use crate::records::{Record, next_part};
-use crate::shape::{DEFINITION_LIMIT, ENTRIES_LIMIT, ENTRY_LIMIT};
 use crate::table::MessageName;
 use crate::writing::put_each_bytes;
 use llb_wire::{Bytes, Memory};

@@ -11,11 +11,11 @@ ghost use Rattle.llb_ops.specs.ReadWriteLaws.{IsReadAgain, IsReadOfRecords};
 
 use crate::exec::ExecOp;
 use crate::fault::OpFault;
-use crate::file::FileOp;
+use crate::file_op::FileOp;
 use crate::merge::MergeOp;
 use crate::message::{Member, Message, each, joined_message, one_of, read_message};
+use crate::payloads_and_limits::ENTRY_LIMIT;
 use crate::records::{Record, joined, last_int64, last_text, unnamed, within_limits};
-use crate::shape::ENTRY_LIMIT;
 use crate::source::SourceOp;
 use crate::table::MessageName;
 use crate::writing::{

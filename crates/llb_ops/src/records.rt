@@ -5,7 +5,7 @@ ghost use Rattle.std.specs.Option.{IfSome};
 ghost use Rattle.std.specs.Str.{IsUtf8, is_utf8};
 ghost use Rattle.llb_wire.specs.Records.{record_of};
 ghost use Rattle.llb_ops.specs.Faults.{Gives};
-ghost use Rattle.llb_ops.specs.declared.shape.Form.TheVariants as form;
+ghost use Rattle.llb_ops.specs.declared.payloads_and_limits.Form.TheVariants as form;
 ghost use Rattle.llb_ops.specs.Table.{shape_of};
 ghost use Rattle.llb_ops.specs.CanonicalFields.{are_unnamed};
 ghost use Rattle.llb_ops.specs.Records.{view, views, form_of, wire_fits, records_from, Starts, texts_fit, text_fits, parts as parts_of};
@@ -15,7 +15,7 @@ ghost use Rattle.llb_ops.specs.Records.{is_member as is_member_of, is_other as i
 ghost use Rattle.llb_ops.specs.Records.{within_limits as within_limits_of};
 
 use crate::fault::OpFault;
-use crate::shape::{FIELD_LIMIT, Form};
+use crate::payloads_and_limits::{FIELD_LIMIT, Form};
 use crate::table::{MessageName, field_numbered};
 use llb_wire::{Bytes, Field, Many, Memory, Text, Wire, next_record};
 use std::alloc::Global;

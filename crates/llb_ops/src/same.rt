@@ -5,7 +5,7 @@ ghost use Rattle.std.specs.Prelude.{◌≡◌, ◌↔◌, IsTrue, slice_get};
 
 use crate::actions::{CopyFile, MkDir, MkFile, Rm};
 use crate::exec::{CacheOpt, ExecOp, Meta, Mount, TmpfsOpt};
-use crate::file::{Action, ActionKind, Actions, FileOp};
+use crate::file_op::{Action, ActionKind, Actions, FileOp};
 use crate::merge::{MergeInput, MergeOp};
 use crate::op::{Input, Kind, Op};
 use crate::owners::{ChownOpt, User, UserOpt};

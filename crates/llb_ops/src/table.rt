@@ -4,7 +4,7 @@
 ghost use Rattle.std.specs.Prelude.{◌≡◌, map, option_map};
 ghost use Rattle.llb_ops.specs.Table.{form_of_kind, rows_of, row_seen, row_numbered, row_named, AreRowsApart};
 
-use crate::shape::Form;
+use crate::payloads_and_limits::Form;
 
 /// A message of the table.
 #[derive(Clone, Copy)]

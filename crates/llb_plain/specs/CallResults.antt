@@ -1,6 +1,6 @@
 -- What a call returns: the fault `Memory`, or what the call's rule returns. The rule of a call defines what the call returns if no memory is refused.
 use Rattle.std.specs.Prelude.{◌≡◌, Bool, true, false, Result, Ok, Err}
-use Rattle.llb_wire.specs.Answer as answer
+use Rattle.llb_wire.specs.CallResults as answer
 use Rattle.llb_plain.specs.declared.fault.PlainFault.{PlainFault}
 use Rattle.llb_plain.specs.declared.fault.PlainFault.TheVariants.{MissingLocal, HasCache, Memory}
 

@@ -9,10 +9,10 @@ ghost use Rattle.llb_plain.specs.OutcomeModelValues.{outcome_of};
 ghost use Rattle.llb_plain.specs.CallResults.{Gives, MemoryLast};
 ghost use Rattle.llb_plain.specs.Evaluation.{evaluate_of};
 
-use crate::cache::first_with_cache;
 use crate::fault::PlainFault;
+use crate::first_cache_vertex::first_with_cache;
 use crate::outcome::{Outcome, Outcomes};
-use crate::running::run;
+use crate::program_run::run;
 use llb_execution::gathered;
 use llb_loader::{Graph, Locals, Vertex, missing_local};
 use llb_wire::Text;

@@ -14,11 +14,11 @@
 //!     Some(tree.is_dir(&Path::root(alloc)))
 #![tactic(auto)]
 
-mod cache;
 mod evaluation;
 mod fault;
+mod first_cache_vertex;
 mod outcome;
-mod running;
+mod program_run;
 
 pub use evaluation::evaluate;
 pub use fault::PlainFault;

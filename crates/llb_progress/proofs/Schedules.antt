@@ -19,8 +19,8 @@ use Rattle.llb_model.proofs.RemainingEvents.{event_room}
 use Rattle.llb_model.proofs.ChosenEventRuns.{chosen_goes_on}
 use Rattle.llb_board.specs.BoardValue.{BoardValue, recorded}
 use Rattle.llb_board.specs.Statuses.{look_of}
-use Rattle.llb_board.specs.WalkAndUndo.{told_as, walk_of}
-use Rattle.llb_board.specs.declared.board.walk.Reply as short
+use Rattle.llb_board.specs.UndoableEvents.{told_as, walk_of}
+use Rattle.llb_board.specs.declared.board.undoable_event.Reply as short
 use Rattle.llb_board.specs.declared.fault.WalkFault.{WalkFault}
 use Rattle.llb_board.specs.declared.fault.WalkFault.TheVariants as walk
 use Rattle.llb_board.specs.declared.status.WorkerStatus.TheVariants as worker

@@ -2,7 +2,7 @@
 //! cache mounts. So each law is called where its premises hold.
 
 ghost use Rattle.std.specs.Prelude.{◌≡◌, ◌+◌, ◌≤◌, IfOk, None, OnErr, OnOk, Some, false, if◌then◌else◌, length, slice_get, true};
-ghost use Rattle.llb_board.specs.DisplacedWorkers.{walk_memory};
+ghost use Rattle.llb_board.specs.WorkersKeptForUndo.{walk_memory};
 ghost use Rattle.llb_events.specs.declared.event.Event.TheVariants.{Claim, Settle, Step};
 ghost use Rattle.llb_model.specs.Run.{is_complete};
 ghost use Rattle.llb_model.specs.State.{Idle, is_ready, runs};

@@ -5,7 +5,7 @@ use Rattle.std.proofs.Math.Nat.{mul-pos, mul-div_cancel}
 use mathlib.Core.Option.{some, some-injective, some-ne-none}
 use lib.ListN.{get_elem?}
 use Rattle.crossbeam_queue.proofs.Lists.{at_set}
-use Rattle.llb_ready.specs.declared.hand.Hand.{Hand}
+use Rattle.llb_ready.specs.declared.pass_knowledge.Hand.{Hand}
 use Rattle.llb_ready.specs.PassKnowledge.{hand, together, spent, widened}
 use Rattle.llb_ready.specs.QueueInvariant.{IsPart}
 

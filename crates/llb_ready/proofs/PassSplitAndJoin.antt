@@ -7,7 +7,7 @@ use mathlib.Core.Option.{some}
 use lib.ListN.{get_elem?}
 use Rattle.crossbeam_queue.specs.Fifo.{Forks, Merges}
 use Rattle.crossbeam_queue.proofs.Lists.{at_set}
-use Rattle.llb_ready.specs.declared.hand.Hand.{Hand}
+use Rattle.llb_ready.specs.declared.pass_knowledge.Hand.{Hand}
 use Rattle.llb_ready.specs.PassKnowledge.{HasAll, first_hand, widened, halved, other_half, together, spent}
 use Rattle.llb_ready.specs.QueueInvariant.{IsPart, IsBalanced}
 use Rattle.llb_ready.proofs.ListSums.{sum_at, within}

@@ -7,7 +7,7 @@ use Rattle.std.proofs.lemmas.List.Sums.{sum_by-append, sum_by-cons}
 use mathlib.Core.Option.{some, some-injective, some-ne-none}
 use lib.ListN.{get_elem?}
 use Rattle.crossbeam_queue.specs.Fifo.{Pushes, Pops, Learns}
-use Rattle.llb_ready.specs.declared.hand.Hand.{Hand}
+use Rattle.llb_ready.specs.declared.pass_knowledge.Hand.{Hand}
 use Rattle.llb_ready.specs.PassKnowledge.{HasAll, first_hand, with_put, with_taken}
 use Rattle.llb_ready.specs.Conservation.{Knows, IsConserved, GainsPut, GainsTaken, HasLeft}
 use Rattle.llb_ready.specs.QueueInvariant.{IsPart, IsBalanced}

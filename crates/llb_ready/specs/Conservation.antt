@@ -1,6 +1,6 @@
 -- Conservation: how often each number was put is how often it was taken plus how often it is still in the queue.
 use Rattle.std.specs.Prelude.{◌≡◌, ℕ, ◌+◌, ◌<◌, ◌≤◌, ◌==◌, List, length, count_by}
-use Rattle.llb_ready.specs.declared.hand.Hand.{Hand}
+use Rattle.llb_ready.specs.declared.pass_knowledge.Hand.{Hand}
 use Rattle.llb_ready.specs.PassKnowledge.{HasAll, with_put, with_taken}
 
 -- How often a number occurs in a list.

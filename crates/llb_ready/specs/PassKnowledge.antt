@@ -1,6 +1,6 @@
 -- What contracts know of a pass, and how each call changes what they know. A pass is the right to put and take numbers; it can be split into fractions.
 use Rattle.std.specs.Prelude.{◌≡◌, ℕ, ◌+◌, ◌*◌, ◌<◌, List, [], ◌∷◌, ◌++◌}
-use Rattle.llb_ready.specs.declared.hand.Hand.{Hand}
+use Rattle.llb_ready.specs.declared.pass_knowledge.Hand.{Hand}
 
 -- A pass with the fraction num/den of the whole, with this room of its queue, and with the numbers that the pass has put and taken.
 abbrev pub hand : ℕ → ℕ → ℕ → List ℕ → List ℕ → Hand

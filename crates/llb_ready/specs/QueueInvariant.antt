@@ -2,7 +2,7 @@
 use Rattle.std.specs.Prelude.{◌≡◌, ℕ, ◌+◌, ◌*◌, ◌<◌, ◌≤◌, List, [], length, slice_index, sum, sum_by}
 use mathlib.Core.Option.{some}
 use lib.ListN.{get_elem?}
-use Rattle.llb_ready.specs.declared.hand.Hand.{Hand}
+use Rattle.llb_ready.specs.declared.pass_knowledge.Hand.{Hand}
 
 -- The pass v is the fraction weight / unit of the whole pass. If the fraction is 0, v has put and taken nothing; else v has the queue's room as its `room`.
 pub record IsPart (unit room weight : ℕ) (v : Hand) : Type 0 where

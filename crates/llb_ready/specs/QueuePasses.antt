@@ -1,7 +1,7 @@
 -- The definitions that clauses use for a queue and its passes.
 use Rattle.std.specs.Prelude.{◌≡◌, ℕ}
 use Rattle.crossbeam_queue.specs.Passes.{view, IsPassOf, ruled_capacity}
-use Rattle.llb_ready.specs.declared.hand.Hand.{Hand}
+use Rattle.llb_ready.specs.declared.pass_knowledge.Hand.{Hand}
 use Rattle.llb_ready.specs.declared.queue.ReadyQueue.{ReadyQueue}
 use Rattle.llb_ready.specs.declared.queue.ReadyPass.{ReadyPass}
 use Rattle.llb_ready.specs.PassKnowledge.{HasAll}

@@ -15,10 +15,10 @@
 #![tactic(auto)]
 
 mod fault;
-mod hand;
+mod pass_knowledge;
 mod queue;
-mod rule;
+mod queue_invariant;
 
 pub use fault::{Full, ReadyFault};
-pub use hand::Hand;
+pub use pass_knowledge::Hand;
 pub use queue::{ReadyPass, ReadyQueue};

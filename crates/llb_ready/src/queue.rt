@@ -7,8 +7,8 @@ ghost use Rattle.llb_ready.specs.PassKnowledge.{HasPart, SamePart, first_hand, w
 ghost use Rattle.llb_ready.specs.Conservation.{times, IsConserved, HasRoom, HasNoRoom, HasTakenAll, HasLeft};
 
 use crate::fault::{Full, ReadyFault};
-use crate::hand::Hand;
-use crate::rule::{Fair, Halves, Joins, Learns, Puts, Takes, Widens};
+use crate::pass_knowledge::Hand;
+use crate::queue_invariant::{Fair, Halves, Joins, Learns, Puts, Takes, Widens};
 use crossbeam_queue::{Pass, RuledArrayQueue};
 use std::alloc::Global;
 use std::sync::Wait;

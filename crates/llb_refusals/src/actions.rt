@@ -1,9 +1,9 @@
 //! File actions and merges while memory is refused. After a refused call, each tree on which the call was made is compared with a second tree,
 //! which was equal to it before the call: the call must have changed nothing.
 
-use super::growths::{Row, Trial, are_refused};
-use super::printed::{printed_fault, printed_text, printed_tree, say, tree_or_fault};
-use super::written::{entries_of, tree_and_twin, tree_named};
+use super::refused_growths::{Row, Trial, are_refused};
+use super::value_texts::{printed_fault, printed_text, printed_tree, say, tree_or_fault};
+use super::values_from_texts::{entries_of, tree_and_twin, tree_named};
 use llb_fileop::{ActFault, Obstacle, Refusal, act, why_refused};
 use llb_merge::{Memory, lay, lay_onto, lay_over};
 use llb_ops::{Action, Kind, Op, read_op};

@@ -2,10 +2,10 @@
 //! premises of the project's aim.
 
 use super::boards::copy_of;
-use super::growths::{Row, Trial, are_refused};
-use super::printed::{printed_fault, printed_text, say};
+use super::refused_growths::{Row, Trial, are_refused};
 use super::runs::printed_alone;
-use super::written::{definition_of, entries_of, entries_text};
+use super::value_texts::{printed_fault, printed_text, say};
+use super::values_from_texts::{definition_of, entries_of, entries_text};
 use llb_board::Board;
 use llb_commands::ProgramFault;
 use llb_commands::laws::{BoardOptions, aim_is_met};

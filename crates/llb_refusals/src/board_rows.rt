@@ -2,7 +2,7 @@
 //! result of the call if no memory is refused.
 
 use super::boards::TWO_FILES;
-use super::growths::Row;
+use super::refused_growths::Row;
 
 pub(crate) const ROWS: &[Row] = &[
     ("claim 0 0", TWO_FILES, "141", "0 at 0, the board"),

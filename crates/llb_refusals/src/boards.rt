@@ -3,9 +3,9 @@
 //! ` after ` and the events follow.
 
 use super::board_rows::ROWS;
-use super::growths::{Row, Trial, are_refused};
-use super::printed::{printed_fault, printed_text};
-use super::written::{graph_of, locals_of};
+use super::refused_growths::{Row, Trial, are_refused};
+use super::value_texts::{printed_fault, printed_text};
+use super::values_from_texts::{graph_of, locals_of};
 use llb_board::{
     Board, ClaimFault, Event, Events, Gate, Job, Memory, OpenFault, Outcome, Status, StepFault,
     Stepped, Stopped, WorkFault, work,

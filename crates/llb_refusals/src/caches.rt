@@ -1,9 +1,9 @@
 //! Leases of caches while memory is refused. A need is written as the ID and the mode of its key and, if the key has a seed, the name of the tree with which
 //! a new instance begins. Two needs have `, ` between them. The needs of earlier leases follow after ` after `, with ` then ` between two leases.
 
-use super::growths::{Row, Trial, are_refused};
-use super::printed::{printed_fault, printed_text, text_of};
-use super::written::tree_named;
+use super::refused_growths::{Row, Trial, are_refused};
+use super::value_texts::{printed_fault, printed_text, text_of};
+use super::values_from_texts::tree_named;
 use llb_cache::{Caches, Instance, Key, Lease, LeaseFault, Lent, Many, Memory, Mode, Need, Seed};
 use std::alloc::Global;
 use std::process::Abort;

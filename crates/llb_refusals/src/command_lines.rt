@@ -1,7 +1,7 @@
 //! The words of a command line, and bytes that are read up to a bound, while memory is refused.
 
-use super::growths::{Row, Trial, are_refused};
-use super::printed::printed_text;
+use super::refused_growths::{Row, Trial, are_refused};
+use super::value_texts::printed_text;
 use llb_commands::{ReadFault, WordsFault, command_of, read_bounded};
 use std::alloc::Global;
 use std::process::Abort;

@@ -1,8 +1,10 @@
 //! Calls on graphs, faults of definitions, local trees and plain outcomes while memory is refused.
 
-use super::growths::{Row, Trial, are_refused};
-use super::printed::{printed_fault, printed_numbers, printed_text, printed_tree, say, text_of};
-use super::written::{definition_of, entries_of, graph_of, locals_of, tree_named};
+use super::refused_growths::{Row, Trial, are_refused};
+use super::value_texts::{
+    printed_fault, printed_numbers, printed_text, printed_tree, say, text_of,
+};
+use super::values_from_texts::{definition_of, entries_of, graph_of, locals_of, tree_named};
 use llb_findings::{findings, findings_of};
 use llb_loader::{Graph, LoadFault, Locals, Memory, Row as Linked, link, load};
 use llb_plain::{Outcomes, PlainFault, evaluate};

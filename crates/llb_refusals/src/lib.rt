@@ -18,13 +18,11 @@ mod command_lines;
 #[cfg(test)]
 mod graphs;
 #[cfg(test)]
-mod growths;
-#[cfg(test)]
 mod ops;
 #[cfg(test)]
-mod printed;
-#[cfg(test)]
 mod programs;
+#[cfg(test)]
+mod refused_growths;
 #[cfg(test)]
 mod runs;
 #[cfg(test)]
@@ -38,6 +36,8 @@ mod texts;
 #[cfg(test)]
 mod trees;
 #[cfg(test)]
-mod wire;
+mod value_texts;
 #[cfg(test)]
-mod written;
+mod values_from_texts;
+#[cfg(test)]
+mod wire;

@@ -1,9 +1,9 @@
 //! Calls that read, write and copy ops, entries and definitions while memory is refused. None of these calls changes the
 //! entries or the op on which it is made.
 
-use super::growths::{Row, Trial, are_refused};
-use super::printed::{printed_bytes, printed_fault, printed_text};
-use super::written::{definition_of, entries_of, printed_entries};
+use super::refused_growths::{Row, Trial, are_refused};
+use super::value_texts::{printed_bytes, printed_fault, printed_text};
+use super::values_from_texts::{definition_of, entries_of, printed_entries};
 use llb_ops::{
     Actions, Entries, FileOp, Kind, Op, OpFault, read_definition, read_op, write_definition,
     write_op,

@@ -1,8 +1,10 @@
 //! The program's commands while memory is refused. The writers are lists in memory that have room for the whole output, so that writing does not allocate.
 
-use super::growths::{MOST, Row, Trial, are_refused, is_lack, print_count, refuse, was_refused};
-use super::printed::{is_same, printed_bytes, printed_text, say};
-use super::written::{definition_of, entries_text, locals_of};
+use super::refused_growths::{
+    MOST, Row, Trial, are_refused, is_lack, print_count, refuse, was_refused,
+};
+use super::value_texts::{is_same, printed_bytes, printed_text, say};
+use super::values_from_texts::{definition_of, entries_text, locals_of};
 use llb_commands::{
     agreements_over, asm_over, dis_over, findings_over, look_over, matches_over, ops_over,
     plan_over, run_many_over, run_over, script_over, show_over, step_over,

@@ -1,10 +1,10 @@
 //! Runs to the end while memory is refused, on one thread and in several; and the queue that these threads share.
 
 use super::boards::{Open, TWO_FILES, are_same, board_in, board_of, board_on};
-use super::growths::{
+use super::refused_growths::{
     MOST, Row, Trial, are_refused, is_lack, print_count, refuse, refuse_thread, was_refused,
 };
-use super::printed::{is_same, printed_fault, printed_text, printed_tree};
+use super::value_texts::{is_same, printed_fault, printed_text, printed_tree};
 use llb_board::{Board, Status, WorkerStatus};
 use llb_ready::{ReadyFault, ReadyQueue};
 use llb_samples::tree_text;

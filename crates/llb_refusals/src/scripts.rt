@@ -1,8 +1,8 @@
 //! Calls on views and scripts, and commands that run on a view, while memory is refused.
 
-use super::growths::{Row, Trial, are_refused};
-use super::printed::{path_of, printed_fault, printed_text, printed_tree, say, text_of};
-use super::written::tree_named;
+use super::refused_growths::{Row, Trial, are_refused};
+use super::value_texts::{path_of, printed_fault, printed_text, printed_tree, say, text_of};
+use super::values_from_texts::tree_named;
 use llb_applet::{
     Cause, Command, Joined, Script, ScriptFault, Setting, View, What, read_script, run_command,
     why_failed,

@@ -1,8 +1,8 @@
 //! Lines of sessions that are refused while every request for memory fails: each has its own number all the same.
 
-use super::growths::{print_count, refuse_all, was_refused};
-use super::printed::is_same;
+use super::refused_growths::{print_count, refuse_all, was_refused};
 use super::steppers::stepper_of;
+use super::value_texts::is_same;
 use llb_session::{Looks, Options, Session, answer};
 use std::alloc::Global;
 use std::process::Abort;

@@ -2,8 +2,8 @@
 //! which are written as in a session.
 
 use super::boards::{are_same, board_in, board_of};
-use super::growths::{Row, Trial, are_refused};
-use super::printed::{printed_fault, printed_text};
+use super::refused_growths::{Row, Trial, are_refused};
+use super::value_texts::{printed_fault, printed_text};
 use llb_board::Event;
 use llb_session::{Looks, Request, request_in};
 use llb_stepper::{Break, Stepper, StepperFault, Stop};

@@ -1,8 +1,8 @@
 //! Texts that are read and written while memory is refused: trees, patterns, the paths of file actions, and entries.
 
-use super::growths::{Row, Trial, are_refused};
-use super::printed::{path_of, printed_fault, printed_path, printed_text, printed_tree, say};
-use super::written::{entries_of, entries_text, printed_entries, tree_named};
+use super::refused_growths::{Row, Trial, are_refused};
+use super::value_texts::{path_of, printed_fault, printed_path, printed_text, printed_tree, say};
+use super::values_from_texts::{entries_of, entries_text, printed_entries, tree_named};
 use llb_asm::{AsmFault, assemble, describe, disassemble};
 use llb_fileop::{ActFault, resolve};
 use llb_glob::{Pattern, PatternFault};

@@ -1,10 +1,10 @@
 //! Calls on paths and trees while memory is refused. A row has the name of the tree on which its call is made (see `written`).
 
-use super::growths::{Row, Trial, are_refused};
-use super::printed::{
+use super::refused_growths::{Row, Trial, are_refused};
+use super::value_texts::{
     path_of, printed_fault, printed_path, printed_text, printed_tree, say, tree_or_fault,
 };
-use super::written::{tree_and_twin, tree_named};
+use super::values_from_texts::{tree_and_twin, tree_named};
 use llb_tree::{Bytes, Meta, Names, Path, Tree, TreeFault};
 use llb_wire::Same;
 use std::alloc::Global;

@@ -1,7 +1,7 @@
 //! Writes records while memory is refused.
 
-use super::growths::{Row, Trial, are_refused};
-use super::printed::{printed_bytes, printed_fault, printed_text};
+use super::refused_growths::{Row, Trial, are_refused};
+use super::value_texts::{printed_bytes, printed_fault, printed_text};
 use llb_wire::{Memory, Wire, write_record, write_varint};
 use std::alloc::Global;
 use std::process::Abort;

@@ -3,12 +3,14 @@
 #![tactic(auto)]
 
 mod entries;
-mod locals;
-mod shown;
+mod local_trees;
+mod path_and_tree_texts;
+mod short_definitions;
 mod trees;
-mod written;
 
-pub use locals::{OLD_AND_F, locals_named, locals_of};
-pub use shown::{push_path, text_of_tree};
+pub use local_trees::{OLD_AND_F, locals_named, locals_of};
+pub use path_and_tree_texts::{push_path, text_of_tree};
+pub use short_definitions::{
+    block, definition_of, entries_in, entries_of, entries_text, graph_in, graph_of,
+};
 pub use trees::{tree_from, tree_named, tree_text};
-pub use written::{block, definition_of, entries_in, entries_of, entries_text, graph_in, graph_of};

@@ -1,6 +1,6 @@
 //! Sample trees, by their names or by their texts.
 
-use crate::written::block;
+use crate::short_definitions::block;
 use llb_tree::Tree;
 use llb_treetext::read_tree;
 use std::alloc::{AllocError, Global};

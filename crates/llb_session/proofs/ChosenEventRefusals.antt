@@ -5,10 +5,10 @@ use Rattle.std.specs.Global.{Global}
 use Rattle.llb_wire.specs.declared.sink.Failed.{Failed}
 use Rattle.llb_model.specs.Run.{chosen}
 use Rattle.llb_events.specs.declared.event.Event as own
-use Rattle.llb_board.specs.DisplacedWorkers.{walk_may_want}
+use Rattle.llb_board.specs.WorkersKeptForUndo.{walk_may_want}
 use Rattle.llb_board.specs.BoardValue.{BoardValue}
-use Rattle.llb_board.specs.WalkAndUndo.{walk_of}
-use Rattle.llb_board.specs.declared.board.walk.Reply as short
+use Rattle.llb_board.specs.UndoableEvents.{walk_of}
+use Rattle.llb_board.specs.declared.board.undoable_event.Reply as short
 use Rattle.llb_board.specs.declared.fault.WalkFault.{WalkFault}
 use Rattle.llb_stepper.specs.StepperResults.{ChosenIsDone, done_by, done_of, may_want, stepper_memory}
 use Rattle.llb_stepper.specs.declared.fault.StepperFault.{StepperFault}
@@ -17,9 +17,9 @@ use Rattle.llb_session.specs.declared.session.Session.{Session}
 use Rattle.llb_session.specs.declared.request.Request.{Request}
 use Rattle.llb_session.specs.declared.request.Request.TheVariants as ask
 use Rattle.llb_session.specs.Request.{request_in}
-use Rattle.llb_session.specs.Texts.{fault_line}
+use Rattle.llb_session.specs.PrintedTexts.{fault_line}
 use Rattle.llb_session.proofs.Streams.{between}
-use Rattle.llb_session.specs.Answers.{IsPerformed, GrantsNext, IsGranted, IsRefused, Answers, Quits, IsReplyWritten, Replies, Says, end_line}
+use Rattle.llb_session.specs.LineReplies.{IsPerformed, GrantsNext, IsGranted, IsRefused, Answers, Quits, IsReplyWritten, Replies, Says, end_line}
 
 wants_by : (s t : Stepping) (r : Result (BoardValue × short.Reply) WalkFault) → done_by s r ≡ Ok t → walk_may_want r ≡ true
 wants_by s t (Ok p) is = refl

@@ -4,7 +4,7 @@ use Rattle.std.specs.Io.KnownBytes.{Appends}
 use Rattle.std.proofs.KnownBytes.{Appends-trans}
 use Rattle.llb_wire.specs.declared.sink.Failed.{Failed}
 use Rattle.llb_wire.specs.Sink.{PartOut, TakesAll}
-use Rattle.llb_session.specs.Answers.{IsReplyWritten}
+use Rattle.llb_session.specs.LineReplies.{IsReplyWritten}
 use Rattle.llb_session.proofs.Streams.{between}
 
 -- a text is written, and then a prefix of what follows it

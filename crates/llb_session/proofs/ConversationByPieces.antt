@@ -7,7 +7,7 @@ use Rattle.std.proofs.KnownBytes.{Appends-nil, Appends-trans, Appends-kept}
 use Rattle.llb_session.specs.declared.session.Session.{Session}
 use Rattle.llb_session.specs.declared.fault.SessionFault.{SessionFault}
 use Rattle.llb_session.specs.declared.fault.SessionFault.TheVariants.{Failed, Unending, Write, Memory, TooLong}
-use Rattle.llb_session.specs.Answers.{Replies}
+use Rattle.llb_session.specs.LineReplies.{Replies}
 use Rattle.llb_session.specs.Conversation.{IsLine, Spelled, Standing, Talked, Answered, Quit, CutShort, AtLineEnd}
 use Rattle.llb_session.specs.ConversationStates.{IsSaid, Went, IsHeard, Hears}
 use Rattle.llb_session.proofs.Streams.{between}

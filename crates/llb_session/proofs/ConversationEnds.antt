@@ -11,7 +11,7 @@ use Rattle.llb_session.specs.declared.fault.SessionFault.{SessionFault}
 use Rattle.llb_session.specs.declared.fault.SessionFault.TheVariants.{Failed, Unending, Write, Memory, TooLong}
 use Rattle.llb_session.specs.Streams.{Stream}
 use Rattle.llb_session.specs.Conversation.{Standing, opening, Answered, last_line, Conversation, Converses}
-use Rattle.llb_session.specs.Answers.{Replies}
+use Rattle.llb_session.specs.LineReplies.{Replies}
 use Rattle.llb_session.specs.ConversationStates.{IsLast, IsSaid, Went, IsHeard, Hears}
 use Rattle.llb_session.proofs.Streams.{between}
 use Rattle.llb_session.proofs.RepliesByPieces.{Talks-more, Talks-one, few_said}

@@ -6,7 +6,7 @@ use Rattle.llb_board.specs.BoardValue.{Replays}
 use Rattle.llb_stepper.specs.Records.{record_at, record_text}
 use Rattle.llb_stepper.specs.Stepping.{Stepping, timeline}
 use Rattle.llb_stepper.proofs.RecordReplies.{reached, ran_on, is_the_run}
-use Rattle.llb_session.specs.Texts.{with_line_end}
+use Rattle.llb_session.specs.PrintedTexts.{with_line_end}
 use Rattle.llb_session.specs.GoOutput.{GoPrintsTheRun, LinesOfTheRun}
 
 pub go_prints : (s : Stepping) → Replays s.board → GoPrintsTheRun s

@@ -1,7 +1,7 @@
 -- The replies to lines, and to the bytes that spell them, one piece after the other.
 use Rattle.std.proofs.Common.{◌≡◌, ℕ, ◌+◌, ◌≤◌, List, [], ◌∷◌, ◌++◌, length, refl, sym, ap, ◌∙◌, subst, append_assoc, append-nil, length-append, arith}
 use Rattle.llb_session.specs.declared.session.Session.{Session}
-use Rattle.llb_session.specs.Answers.{Replies}
+use Rattle.llb_session.specs.LineReplies.{Replies}
 use Rattle.llb_session.specs.Conversation.{IsLine, Spelled, Talks, Standing, Talked}
 use Rattle.llb_session.proofs.LinesOfBytes.{Spelled-more, Spelled-none, few_lines}
 

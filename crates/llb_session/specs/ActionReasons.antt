@@ -2,7 +2,7 @@
 use Rattle.std.specs.Prelude.{ℕ, List, [], ◌++◌, codes, Option, Some, None, option_map, slice_get}
 use Rattle.llb_tree.specs.Tree.{TreeMap}
 use Rattle.llb_treetext.specs.TreeText.{path_text}
-use Rattle.llb_ops.specs.declared.file.Action.{Action}
+use Rattle.llb_ops.specs.declared.file_op.Action.{Action}
 use Rattle.llb_fileop.specs.Refusals.{refusal_of}
 use Rattle.llb_fileop.specs.declared.refusal.Field.{Field}
 use Rattle.llb_fileop.specs.declared.refusal.Field.TheVariants as field

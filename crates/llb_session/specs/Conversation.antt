@@ -6,7 +6,7 @@ use Rattle.llb_session.specs.declared.session.Session.{Session}
 use Rattle.llb_session.specs.declared.fault.SessionFault.{SessionFault}
 use Rattle.llb_session.specs.declared.fault.SessionFault.TheVariants.{Failed, Unending, Write, Memory, TooLong}
 use Rattle.llb_session.specs.Streams.{Stream, IsWritten}
-use Rattle.llb_session.specs.Answers.{Replies, Quits}
+use Rattle.llb_session.specs.LineReplies.{Replies, Quits}
 
 -- ---- lines
 

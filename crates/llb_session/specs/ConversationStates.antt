@@ -4,7 +4,7 @@ use Rattle.llb_session.specs.declared.session.Session.{Session}
 use Rattle.llb_session.specs.declared.conversation.Pending.{Pending}
 use Rattle.llb_session.specs.declared.fault.SessionFault.{SessionFault}
 use Rattle.llb_session.specs.declared.fault.SessionFault.TheVariants.{Failed, Unending, Write, Memory, TooLong}
-use Rattle.llb_session.specs.Answers.{Replies, Quits}
+use Rattle.llb_session.specs.LineReplies.{Replies, Quits}
 use Rattle.llb_session.specs.Streams.{Stream, IsKept, IsWritten, IsPartWritten}
 use Rattle.llb_session.specs.Conversation.{Talks, Talked, Standing, Answered, Quit, CutShort, AtLineEnd, last_line}
 

@@ -6,8 +6,8 @@ use Rattle.llb_model.specs.Table.{Reply}
 use Rattle.llb_model.specs.Run.{run}
 use Rattle.llb_stepper.specs.Records.{record_text}
 use Rattle.llb_stepper.specs.Stepping.{Stepping}
-use Rattle.llb_session.specs.Answers.{GrantsGo, stop_line}
-use Rattle.llb_session.specs.Texts.{record_line, record_lines}
+use Rattle.llb_session.specs.LineReplies.{GrantsGo, stop_line}
+use Rattle.llb_session.specs.PrintedTexts.{record_line, record_lines}
 
 -- After a `go` from s to t: the record of t is a run from the board's opening to the board's state, and the line of each event that the `go` appended
 -- has the event, its number, and its reply in that run.

@@ -2,18 +2,18 @@
 
 ghost use Rattle.std.specs.Prelude.{◌≡◌, ◌++◌, ◌-◌, length, IfOk, IfErr, string_bytes};
 ghost use Rattle.llb_session.specs.declared.request.Request.TheVariants as ask;
-ghost use Rattle.llb_session.specs.Answers.{IsPerformed, Responds, IsReplyWritten, IsTextWritten, Says, end_line, look_lines, stop_line};
-ghost use Rattle.llb_session.specs.Texts.{fault_line, record_lines};
+ghost use Rattle.llb_session.specs.LineReplies.{IsPerformed, Responds, IsReplyWritten, IsTextWritten, Says, end_line, look_lines, stop_line};
+ghost use Rattle.llb_session.specs.PrintedTexts.{fault_line, record_lines};
 ghost use Rattle.llb_stepper.specs.declared.fault.StepperFault.TheVariants as refusal;
 
 use crate::graph_text::{digests_text, graph_text};
+use crate::printed_texts::{
+    back_line, caches_text, line_text, record_text, status_text, tree_text, work_text,
+};
 use crate::reasons::why_text;
 use crate::refusal::write_refusal;
 use crate::request::{Look, Request, request_in};
 use crate::session::Session;
-use crate::text::{
-    back_line, caches_text, line_text, record_text, status_text, tree_text, work_text,
-};
 use llb_board::Event;
 use llb_stepper::{Break, Stepper, StepperFault, chosen_is_done};
 use llb_wire::{Failed, Over, write_all};

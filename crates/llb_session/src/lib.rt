@@ -24,11 +24,11 @@ mod conversation;
 mod fault;
 mod graph_text;
 pub mod laws;
+mod printed_texts;
 mod reasons;
 mod refusal;
 mod request;
 mod session;
-mod text;
 
 pub use answering::{answer, respond};
 pub use conversation::converse;

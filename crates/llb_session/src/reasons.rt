@@ -5,7 +5,7 @@ ghost use Rattle.std.specs.Prelude.{◌≡◌, ◌++◌, length, option_map, sli
 ghost use Rattle.llb_model.specs.State.{runs};
 ghost use Rattle.llb_execution.specs.ModelValues.{step_in};
 ghost use Rattle.llb_session.specs.Reasons.{shown_now, mounts_run, vertex_run, cause_in, cause_at, before_path, after_path, cause_text};
-ghost use Rattle.llb_session.specs.Whys.{why_lines, why_at};
+ghost use Rattle.llb_session.specs.ReasonLines.{why_lines, why_at};
 ghost use Rattle.llb_stepper.specs.declared.fault.StepperFault.TheVariants as refusal;
 
 use crate::action_reasons::{push_refusal, refusal_at};

@@ -5,7 +5,7 @@ ghost use Rattle.std.specs.Fmt.{decimal};
 ghost use Rattle.llb_wire.specs.Sink.{TakesAll};
 ghost use Rattle.llb_board.specs.Faults.{walk_text};
 ghost use Rattle.llb_stepper.specs.Faults.{stepper_text};
-ghost use Rattle.llb_session.specs.Texts.{fault_line};
+ghost use Rattle.llb_session.specs.PrintedTexts.{fault_line};
 
 use llb_board::WalkFault;
 use llb_events::{CancelFault, ClaimFault, SettleFault, StepFault};

@@ -11,9 +11,9 @@ use Rattle.llb_model.specs.Run.{run}
 use Rattle.llb_model.proofs.RunExtension.{run_first}
 use Rattle.std.specs.Prelude.{fold, take, slice_get}
 use Rattle.llb_board.specs.BoardValue.{BoardValue, Replays, after_event, kept_along, kept_next}
-use Rattle.llb_model.specs.CacheBridge.{rows_after}
-use Rattle.llb_board.specs.WalkAndUndo.{undone}
-use Rattle.llb_board.specs.declared.board.walk.Walked.{Walked}
+use Rattle.llb_model.specs.TwoCacheModels.{rows_after}
+use Rattle.llb_board.specs.UndoableEvents.{undone}
+use Rattle.llb_board.specs.declared.board.undoable_event.Walked.{Walked}
 use Rattle.llb_stepper.specs.StepperInvariant.{past_of, AreWalked}
 use Rattle.llb_stepper.specs.Stepping.{Stepping, PastIsTheRecords, at_first, run_on, then_on}
 use Rattle.llb_stepper.proofs.BoardAfterEvent.{Grew, grew, shifted}

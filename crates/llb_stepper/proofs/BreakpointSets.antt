@@ -4,13 +4,13 @@ use Rattle.std.specs.List.{list_any}
 use Rattle.llb_events.specs.declared.event.Event.{Event}
 use Rattle.llb_events.specs.declared.event.Event.TheVariants.{Claim, Step, Settle, Cancel}
 use Rattle.llb_events.specs.declared.event.Settled.TheVariants as settled
-use Rattle.llb_board.specs.declared.board.walk.Reply.{Reply}
-use Rattle.llb_board.specs.declared.board.walk.Reply.TheVariants as reply
+use Rattle.llb_board.specs.declared.board.undoable_event.Reply.{Reply}
+use Rattle.llb_board.specs.declared.board.undoable_event.Reply.TheVariants as reply
 use Rattle.llb_stepper.specs.declared.breakpoints.Kinds.{Kinds}
 use Rattle.llb_stepper.specs.declared.stop.Break.{Break}
 use Rattle.llb_stepper.specs.declared.stop.Break.TheVariants as stop
 use Rattle.llb_stepper.specs.Stepping.{claims}
-use Rattle.llb_stepper.specs.WalkReplies.{settles_told, failed_told, meets_told}
+use Rattle.llb_stepper.specs.UndoableEventReplies.{settles_told, failed_told, meets_told}
 use Rattle.llb_stepper.specs.BreakpointSets.{AreKinds, is_at_claims, is_at_settles, is_at_failures, is_met_by_event, is_met_by_reply}
 
 -- whether a breakpoint is met by an event, whatever its reply

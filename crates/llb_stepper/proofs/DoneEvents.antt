@@ -9,13 +9,13 @@ use Rattle.llb_model.specs.State.{State}
 use Rattle.llb_events.specs.declared.event.Event.{Event}
 use Rattle.llb_model.specs.Table.{Reply, table}
 use Rattle.llb_board.specs.BoardValue.{BoardValue, after_event}
-use Rattle.llb_board.specs.WalkAndUndo.{told, undone}
-use Rattle.llb_board.specs.declared.board.walk.Reply as short
-use Rattle.llb_board.specs.declared.board.walk.Walked.{Walked}
+use Rattle.llb_board.specs.UndoableEvents.{told, undone}
+use Rattle.llb_board.specs.declared.board.undoable_event.Reply as short
+use Rattle.llb_board.specs.declared.board.undoable_event.Walked.{Walked}
 use Rattle.llb_stepper.specs.StepperInvariant.{past_of, AreWalked}
 use Rattle.llb_stepper.specs.Records.{record_at, replied}
 use Rattle.llb_stepper.specs.Stepping.{Stepping, answered}
-use Rattle.llb_stepper.specs.WalkReplies.{told_pair}
+use Rattle.llb_stepper.specs.UndoableEventReplies.{told_pair}
 
 -- what is added at the end is the last item
 pub at_end : {A : Type 0} (xs : List A) (y : A) → slice_get (xs ++ y ∷ []) (length xs) ≡ Some y

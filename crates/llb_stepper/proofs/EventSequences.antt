@@ -12,10 +12,10 @@ use Rattle.llb_model.proofs.ChosenEventRuns.{chosen_comes_nearer}
 use Rattle.llb_board.specs.BoardValue.{BoardValue, after_event}
 use Rattle.llb_stepper.specs.declared.stop.Break.{Break}
 use Rattle.llb_stepper.specs.declared.stop.Stop.{Stop}
-use Rattle.llb_board.specs.WalkAndUndo.{walk_of}
+use Rattle.llb_board.specs.UndoableEvents.{walk_of}
 use Rattle.llb_events.specs.declared.event.Event as own
 use Rattle.llb_board.specs.declared.fault.WalkFault.{WalkFault}
-use Rattle.llb_board.specs.declared.board.walk.Reply as short
+use Rattle.llb_board.specs.declared.board.undoable_event.Reply as short
 use Rattle.llb_stepper.specs.declared.fault.StepperFault.{StepperFault}
 use Rattle.llb_stepper.specs.declared.fault.StepperFault.TheVariants as fault
 use Rattle.llb_stepper.specs.StepperResults.{IsRefusedAt, MeetsOn, done_by, done_of, stepper_memory}

@@ -6,4 +6,4 @@ pub mod BoardReplay
 pub mod StepperReplay
 pub mod RepliesAfterEvents
 pub mod EventSequences
-pub mod WalkByTable
+pub mod UndoableEventsByTable

@@ -10,7 +10,7 @@ use Rattle.llb_model.specs.Landing.{landing}
 use Rattle.llb_model.specs.Table.{Reply, worker_of, table, claim_grant, step_grant, settle_grant, cancel_grant}
 use Rattle.llb_model.specs.Run.{run}
 use Rattle.llb_model.proofs.RunExtension.{run_on, run_one}
-use Rattle.llb_model.specs.CacheBridge.{rows_after}
+use Rattle.llb_model.specs.TwoCacheModels.{rows_after}
 use Rattle.llb_board.specs.BoardValue.{BoardValue, Replays, after_event, recorded, replies_in}
 use Rattle.llb_stepper.specs.Replies.{RepliesAreRecorded}
 

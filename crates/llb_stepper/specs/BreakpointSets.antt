@@ -7,8 +7,8 @@ use Rattle.std.specs.BTreeSet.{contains}
 use Rattle.llb_events.specs.declared.event.Event.{Event}
 use Rattle.llb_events.specs.declared.event.Event.TheVariants.{Claim, Step, Settle, Cancel}
 use Rattle.llb_events.specs.declared.event.Settled.TheVariants as settled
-use Rattle.llb_board.specs.declared.board.walk.Reply.{Reply}
-use Rattle.llb_board.specs.declared.board.walk.Reply.TheVariants as reply
+use Rattle.llb_board.specs.declared.board.undoable_event.Reply.{Reply}
+use Rattle.llb_board.specs.declared.board.undoable_event.Reply.TheVariants as reply
 use Rattle.llb_stepper.specs.declared.breakpoints.Kinds.{Kinds}
 use Rattle.llb_stepper.specs.declared.stop.Break.{Break}
 use Rattle.llb_stepper.specs.declared.stop.Break.TheVariants as stop

@@ -3,9 +3,9 @@ use Rattle.std.specs.Prelude.{◌≡◌, List, [], ◌∷◌, reverse, Some}
 use Rattle.llb_events.specs.declared.event.Event.{Event}
 use Rattle.llb_model.specs.Table.{Reply}
 use Rattle.llb_board.specs.BoardValue.{BoardValue}
-use Rattle.llb_board.specs.WalkAndUndo.{told, undone, CanUndo}
-use Rattle.llb_board.specs.declared.board.walk.Reply as short
-use Rattle.llb_board.specs.declared.board.walk.Walked.{Walked}
+use Rattle.llb_board.specs.UndoableEvents.{told, undone, CanUndo}
+use Rattle.llb_board.specs.declared.board.undoable_event.Reply as short
+use Rattle.llb_board.specs.declared.board.undoable_event.Walked.{Walked}
 use Rattle.llb_stepper.specs.declared.stop.Break.{Break}
 use Rattle.llb_stepper.specs.Stepping.{Stepping, answered}
 

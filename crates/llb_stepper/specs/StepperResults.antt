@@ -1,14 +1,14 @@
 -- What the calls of a stepper return.
 use Rattle.std.specs.Prelude.{◌≡◌, ℕ, ◌<◌, Bool, true, false, List, take, Some, Result, Ok, Err, slice_get}
 use Rattle.std.specs.List.{list_any}
-use Rattle.llb_wire.specs.Answer as answer
+use Rattle.llb_wire.specs.CallResults as answer
 use Rattle.llb_events.specs.declared.event.Event.{Event}
 use Rattle.llb_model.specs.Table.{Reply}
 use Rattle.llb_model.specs.Run.{chosen}
 use Rattle.llb_board.specs.BoardValue.{BoardValue}
-use Rattle.llb_board.specs.WalkAndUndo.{walk_of}
-use Rattle.llb_board.specs.DisplacedWorkers.{walk_memory, walk_may_want}
-use Rattle.llb_board.specs.declared.board.walk.Reply as short
+use Rattle.llb_board.specs.UndoableEvents.{walk_of}
+use Rattle.llb_board.specs.WorkersKeptForUndo.{walk_memory, walk_may_want}
+use Rattle.llb_board.specs.declared.board.undoable_event.Reply as short
 use Rattle.llb_board.specs.declared.fault.WalkFault.{WalkFault}
 use Rattle.llb_stepper.specs.declared.fault.StepperFault.{StepperFault}
 use Rattle.llb_stepper.specs.declared.fault.StepperFault.TheVariants as fault

@@ -3,7 +3,7 @@
 
 ghost use Rattle.std.specs.Prelude.{◌≡◌, ◌++◌, ◌∷◌, [], OnOk, OnErr};
 ghost use Rattle.std.specs.List.{list_any};
-ghost use Rattle.llb_stepper.specs.WalkReplies.{meets_told};
+ghost use Rattle.llb_stepper.specs.UndoableEventReplies.{meets_told};
 ghost use Rattle.llb_stepper.specs.BreakpointSets.{AreKinds, AreKindsOfOneMore, AreUnchanged, is_met_by_event, is_met_by_reply};
 
 use crate::stop::Break;

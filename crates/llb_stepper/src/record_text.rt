@@ -2,7 +2,7 @@
 
 ghost use Rattle.std.specs.Prelude.{◌≡◌, IfOk, option_map, string_bytes};
 ghost use Rattle.llb_stepper.specs.Records.{event_text, claimed_text, pair_text, fault_text, vertex_of, step_text, settle_text};
-ghost use Rattle.llb_stepper.specs.WalkReplies.{told_text, line_text};
+ghost use Rattle.llb_stepper.specs.UndoableEventReplies.{told_text, line_text};
 
 use llb_board::{Cancelled, Event, Reply, Settled, Stepped};
 use llb_events::VertexFault;

@@ -7,7 +7,7 @@ ghost use Rattle.llb_stepper.specs.StepperResults.{GivesEvent, done_of, may_want
 ghost use Rattle.llb_stepper.specs.Stepping.{GoesBack, IsStop, IsGo, IsReplayed, PastIsTheRecords, timeline, lesser};
 ghost use Rattle.llb_stepper.specs.Records.{record_at, record_text, RecordIsTheRun, ReplaysOnAStepper};
 ghost use Rattle.llb_stepper.specs.Replies.{RepliesAreRecorded};
-ghost use Rattle.llb_stepper.specs.WalkReplies.{told_pair};
+ghost use Rattle.llb_stepper.specs.UndoableEventReplies.{told_pair};
 ghost use Rattle.llb_stepper.specs.declared.fault.StepperFault.TheVariants as fault;
 
 use crate::breakpoints::Breakpoints;
@@ -162,7 +162,7 @@ impl Stepper {
     }
 
     /// Returns how many events the stepper did that are not taken back. Does not allocate.
-    #[tactic(auto, using(crate::proofs::WalkByTable::depth_of))]
+    #[tactic(auto, using(crate::proofs::UndoableEventsByTable::depth_of))]
     pub fn depth(&self) -> usize
         ensures { result ≡ length self.now.past }
     {

@@ -11,7 +11,7 @@ use Rattle.std.specs.Ordering.{is_eq}
 use Rattle.std.specs.FinMap as finite
 use Rattle.std.specs.FinMap.Entries.{below_all}
 use Rattle.llb_tree.specs.Path.{name_cmp, path_cmp}
-use Rattle.llb_tree.specs.Meta.{MetaValue}
+use Rattle.llb_tree.specs.ModeAndOwner.{MetaValue}
 use Rattle.llb_tree.specs.PathOrder.{name_cmp-IsAntisymmetric, path_cmp-IsTotalOrder, path_cmp-IsAntisymmetric}
 use Rattle.llb_tree.specs.Tree.{TreeMap, Entry, Dir, File, Look, height}
 use Rattle.llb_tree.specs.Nodes.{name_of, rows_in, kids_of, kids_in, own_entry, map_of, pair_of, AreSorted, child, look_in, dir_look, file_look}

@@ -10,7 +10,7 @@ use Rattle.std.specs.FinMap as finite
 use Rattle.llb_tree.specs.Path.{name_cmp}
 use Rattle.llb_tree.specs.PathOrder.{name_cmp-IsAntisymmetric}
 use Rattle.llb_tree.specs.Tree.{TreeMap, Dir}
-use Rattle.llb_tree.specs.Meta.{MetaValue}
+use Rattle.llb_tree.specs.ModeAndOwner.{MetaValue}
 use Rattle.llb_tree.specs.Nodes.{Pairs, name_of, pair_of, AreSorted, child, look_in}
 use Rattle.llb_tree.specs.Overlay.{SettingsValue, below_file, over, over_at}
 use Rattle.llb_tree.specs.Laying.{Lays, IsOver, AreLaid, TakesWhole, Covers, HasLater, written}

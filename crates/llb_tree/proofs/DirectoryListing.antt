@@ -14,7 +14,7 @@ use Rattle.llb_tree.specs.declared.fault.TreeFault.TheVariants.{NotFound}
 use Rattle.llb_tree.specs.Tree.{Entry, TreeMap, all_dirs, name_below, moved, list, dir_there, tree_at}
 use Rattle.llb_tree.specs.Nodes.{name_of, below, flat}
 use Rattle.llb_tree.specs.declared.node.Child.{Child}
-use Rattle.llb_wire.specs.Answer.{◌>>=◌}
+use Rattle.llb_wire.specs.CallResults.{◌>>=◌}
 use Rattle.llb_tree.proofs.EntryOrder.{is_less, less_is, and_first, and_second, and_both}
 use Rattle.llb_tree.proofs.PathsBelow.{within_split, cmp-append}
 use Rattle.llb_tree.proofs.SubtreeEntries.{Pair, inside, get-tree_at}

@@ -4,7 +4,7 @@ use Rattle.std.proofs.Common.{subst, ◌∙◌, arith, length-append}
 use Rattle.std.specs.FinMap as finite
 use Rattle.llb_wire.specs.Spelling.{AreBytes}
 use Rattle.llb_tree.specs.Path.{path_cmp, IsPath}
-use Rattle.llb_tree.specs.Meta.{MetaValue, IsMeta, new_dir_meta}
+use Rattle.llb_tree.specs.ModeAndOwner.{MetaValue, IsMeta, new_dir_meta}
 use Rattle.llb_tree.specs.Tree.{TreeMap, Entry, Dir, walk, file_fits, dir_fits, found, dir_there, places_fit, put_file, put_dir, remove}
 use Rattle.llb_tree.specs.Tree.{graft, subtree, with_tree, empty_tree, IsTree}
 use Rattle.llb_tree.specs.Nodes.{look_in, set_look, dir_look, file_look, IsWhole}

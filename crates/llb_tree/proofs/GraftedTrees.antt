@@ -9,11 +9,11 @@ use Rattle.std.specs.List.{All}
 use Rattle.std.specs.FinMap as finite
 use Rattle.llb_tree.specs.Path.{is_name, path_cmp, is_within, IsPath}
 use Rattle.llb_tree.specs.PathOrder.{path_cmp-IsTotalOrder, same_path}
-use Rattle.llb_tree.specs.Meta.{MetaValue}
+use Rattle.llb_tree.specs.ModeAndOwner.{MetaValue}
 use Rattle.llb_tree.specs.Tree.{Entry, Dir, File, Look, TreeMap, parents, all_dirs, walk, moved, without, with_tree, places_fit, graft, IsAllowedAt, IsTree}
 use Rattle.llb_tree.specs.declared.fault.TreeFault.{TreeFault}
 use Rattle.llb_tree.specs.declared.fault.TreeFault.TheVariants.{BadName}
-use Rattle.llb_wire.specs.Answer.{◌>>=◌}
+use Rattle.llb_wire.specs.CallResults.{◌>>=◌}
 use Rattle.llb_tree.proofs.SubtreeEntries.{Pair, walk-cons}
 use Rattle.llb_tree.proofs.PathsBelow.{within_split, within-append, cmp-append}
 use Rattle.llb_tree.proofs.SubtreeRemoval.{get-without, walk_beside}

@@ -12,7 +12,7 @@ use Rattle.std.specs.FinMap as finite
 use Rattle.std.specs.FinMap.Entries.{below_all}
 use Rattle.llb_tree.specs.Path.{name_cmp}
 use Rattle.llb_tree.specs.PathOrder.{path_cmp-IsTotalOrder, path_cmp-IsAntisymmetric, name_cmp-IsAntisymmetric}
-use Rattle.llb_tree.specs.Meta.{MetaValue}
+use Rattle.llb_tree.specs.ModeAndOwner.{MetaValue}
 use Rattle.llb_tree.specs.Tree.{TreeMap, Entry, Dir, File}
 use Rattle.llb_tree.specs.Nodes.{name_of, pair_of, kids_of, own_entry, map_of, AreSorted}
 use Rattle.llb_tree.specs.EntryLookup.{look_kids, get-below, get-root}

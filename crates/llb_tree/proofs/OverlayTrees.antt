@@ -4,7 +4,7 @@ use Rattle.std.proofs.Common.{IsSome, is_some, Ok, refl, sym, ap, subst, ◌∙�
 use Rattle.std.proofs.lemmas.Bool.{ltb-false}
 use Rattle.std.specs.List.{list_any}
 use Rattle.std.specs.FinMap as finite
-use Rattle.llb_tree.specs.Meta.{MetaValue, IsMeta}
+use Rattle.llb_tree.specs.ModeAndOwner.{MetaValue, IsMeta}
 use Rattle.llb_tree.specs.Tree.{Entry, Dir, File, TreeMap, Look, meta_in, parents, all_dirs, walk, height, IsDirAt, HasBytes, IsAllowedAt, IsTree}
 use Rattle.llb_tree.specs.TreeHeights.{height_le, le_height}
 use Rattle.llb_tree.specs.Overlay.{is_file, below_file, SettingsValue, is_mode, laid_meta, over, laid_over, over_at}

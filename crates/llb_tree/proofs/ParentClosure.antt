@@ -4,7 +4,7 @@ use Rattle.std.proofs.Common.{subst, ◌∙◌, true≢false, arith}
 use Rattle.std.specs.Ordering.{eq_by_cmp}
 use Rattle.std.specs.FinMap as finite
 use Rattle.llb_wire.specs.Spelling.{AreBytes}
-use Rattle.llb_tree.specs.Meta.{MetaValue, IsMeta}
+use Rattle.llb_tree.specs.ModeAndOwner.{MetaValue, IsMeta}
 use Rattle.llb_tree.specs.Path.{path_cmp, IsPath}
 use Rattle.llb_tree.specs.PathOrder.{path_cmp-IsTotalOrder, same_path}
 use Rattle.llb_tree.specs.Tree.{Entry, Dir, File, Look, TreeMap, parents, all_dirs, walk, file_fits, IsDirAt, IsAllowedAt, IsTree}

@@ -8,7 +8,7 @@ use Rattle.std.proofs.lemmas.List.{append-nil}
 use Rattle.std.proofs.lemmas.List.Elements.{All-head, All-tail, All-weaker}
 use Rattle.std.proofs.lemmas.List.Sums.{AllPass-from_list_all}
 use Rattle.std.proofs.lemmas.List.Splits.{slice_split_none, slice_split_at}
-use Rattle.llb_wire.specs.Answer.{◌>>=◌}
+use Rattle.llb_wire.specs.CallResults.{◌>>=◌}
 use Rattle.llb_tree.specs.declared.fault.TreeFault.TheVariants.{BadName}
 use Rattle.llb_tree.specs.Path.{is_name, is_name_byte, IsPath, below, enter, follow, parts_of, path_of, joined, ReadsBack}
 use Rattle.llb_tree.proofs.NameTests.{passes_tests, no_slash}

@@ -7,7 +7,7 @@ use Rattle.std.specs.FinMap as finite
 use Rattle.llb_tree.specs.Path.{path_cmp, is_within}
 use Rattle.llb_tree.specs.PathOrder.{path_cmp-IsAntisymmetric}
 use Rattle.llb_tree.specs.Tree.{Entry, Dir, File, Look, TreeMap, parents, all_dirs, walk, without, remove, found, IsTree}
-use Rattle.llb_wire.specs.Answer.{◌>>=◌}
+use Rattle.llb_wire.specs.CallResults.{◌>>=◌}
 use Rattle.llb_tree.proofs.SubtreeEntries.{walk-cons}
 
 -- what one path is not, a path that ties is not either

@@ -1,7 +1,7 @@
 -- A call of this crate returns the result of its rule, or it fails with `Memory`. The rule of a call is a definition: a function that returns a value
 -- or a fault, but never the fault `Memory`.
 use Rattle.std.specs.Prelude.{Bool, true, false, Result}
-use Rattle.llb_wire.specs.Answer as answer
+use Rattle.llb_wire.specs.CallResults as answer
 use Rattle.llb_tree.specs.declared.fault.TreeFault.{TreeFault}
 use Rattle.llb_tree.specs.declared.fault.TreeFault.TheVariants.{NotFound, NotDir, IsDir, Conflict, Root, BadName, Memory}
 

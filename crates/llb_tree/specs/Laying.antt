@@ -5,7 +5,7 @@ use Rattle.std.specs.FinMap as finite
 use Rattle.llb_tree.specs.Path.{name_cmp}
 use Rattle.llb_tree.specs.Tree.{TreeMap, Entry}
 use Rattle.llb_tree.specs.Nodes.{AreSorted, Pairs, child, look_in, name_of, pair_of, rows_in}
-use Rattle.llb_tree.specs.Meta.{MetaValue}
+use Rattle.llb_tree.specs.ModeAndOwner.{MetaValue}
 use Rattle.llb_tree.specs.Overlay.{SettingsValue, is_mode, laid_meta, over, over_at}
 use Rattle.llb_tree.specs.declared.node.Child.{Child}
 use Rattle.llb_tree.specs.declared.node.Piece.{Piece}

@@ -1,12 +1,12 @@
--- Read first Tree (a tree as a map from paths to entries, and its edits) and Path (names, paths, and how a text is read) with Meta and Modes, then Overlay
--- (one tree over another), Walks, PathTests, PathEntries and CallResults. PathOrder has the laws of the order of paths, which the code of the type `Path`
--- cites; Nodes, ChildPieces, EntryLookup, TreeHeights and Laying say how this crate keeps trees as nodes; CodedTrees says how trees are turned into plain
--- values.
+-- Read first Tree (a tree as a map from paths to entries, and its edits) and Path (names, paths, and how a text is read) with ModeAndOwner and ModeTexts, then
+-- Overlay (one tree over another), Walks, PathTests, PathEntries and CallResults. PathOrder has the laws of the order of paths, which the code of the type
+-- `Path` cites; Nodes, ChildPieces, EntryLookup, TreeHeights and Laying say how this crate keeps trees as nodes; CodedTrees says how trees are turned into
+-- plain values.
 pub mod CallResults
 pub mod Path
 pub mod PathOrder
-pub mod Meta
-pub mod Modes
+pub mod ModeAndOwner
+pub mod ModeTexts
 pub mod Tree
 pub mod CodedTrees
 pub mod Nodes

@@ -2,7 +2,7 @@
 -- of both trees may keep the lower tree's mode and owner. A lower entry stays if the upper tree has nothing at its path and no file above it.
 use Rattle.std.specs.Prelude.{ℕ, Bool, true, false, List, map, Option, Some, None, unwrap_or, nat_lt, if◌then◌else◌}
 use Rattle.std.specs.List.{list_any}
-use Rattle.llb_tree.specs.Meta.{MetaValue}
+use Rattle.llb_tree.specs.ModeAndOwner.{MetaValue}
 use Rattle.llb_tree.specs.Tree.{Entry, Dir, File, Look, parents}
 
 -- whether there is an entry and the entry is a file

@@ -7,7 +7,7 @@ use Rattle.std.specs.Str.{is_utf8}
 use Rattle.std.specs.declared.cmp.Ordering.{Ordering}
 use Rattle.std.specs.Ordering.{nat_cmp}
 use Rattle.std.specs.Cmp.Lexicographic.{slice_cmp, pointwise}
-use Rattle.llb_wire.specs.Answer.{◌>>=◌}
+use Rattle.llb_wire.specs.CallResults.{◌>>=◌}
 use Rattle.llb_tree.specs.declared.fault.TreeFault.{TreeFault}
 use Rattle.llb_tree.specs.declared.fault.TreeFault.TheVariants.{BadName}
 

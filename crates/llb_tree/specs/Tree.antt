@@ -7,10 +7,10 @@ use Rattle.std.specs.List.{flat_map}
 use Rattle.std.specs.FinMap as finite
 use Rattle.std.specs.FinMap.{FinMap}
 use Rattle.std.specs.FinMap.Entries.{where_key}
-use Rattle.llb_wire.specs.Answer.{◌>>=◌}
+use Rattle.llb_wire.specs.CallResults.{◌>>=◌}
 use Rattle.llb_wire.specs.Spelling.{AreBytes}
 use Rattle.llb_tree.specs.Path.{path_cmp, IsPath, is_within}
-pub use Rattle.llb_tree.specs.Meta.{MetaValue, IsMeta, new_dir_meta}
+pub use Rattle.llb_tree.specs.ModeAndOwner.{MetaValue, IsMeta, new_dir_meta}
 pub use Rattle.llb_tree.specs.CallResults.{is_memory, Gives, MemoryLast}
 use Rattle.llb_tree.specs.declared.fault.TreeFault.{TreeFault}
 use Rattle.llb_tree.specs.declared.fault.TreeFault.TheVariants.{NotFound, NotDir, IsDir, Conflict, Root, BadName}

@@ -9,7 +9,7 @@ ghost use Rattle.llb_tree.specs.Tree.{Gives, MemoryLast, put_file, content_of};
 ghost use Rattle.llb_tree.specs.Nodes.{file_look};
 
 use crate::fault::TreeFault;
-use crate::meta::Meta;
+use crate::mode_and_owner::Meta;
 use crate::node::{Kind, Node};
 use crate::path::Path;
 use crate::tree::{Tree, file_may_stand};

@@ -8,9 +8,9 @@ ghost use Rattle.std.specs.FinMap as finite;
 ghost use Rattle.llb_tree.specs.Nodes.{AreSorted, pair_of, place, set_look};
 ghost use Rattle.llb_tree.specs.ChildPieces.{ArePieced, Changes, pairs_of};
 
+use crate::child_pieces::{drop_empty, make_room, own_list};
 use crate::name::Name;
 use crate::node::{Child, Kind, Node, Piece, place_of};
-use crate::pieces::{drop_empty, make_room, own_list};
 use std::alloc::{AllocError, Global};
 use std::sync::Arc;
 

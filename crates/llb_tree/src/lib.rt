@@ -15,41 +15,41 @@
 //!     Some(tree.is_dir(&path)) // true
 #![tactic(auto)]
 
+mod child_insertion;
+mod child_pieces;
 mod children;
 mod compare;
 mod content;
-mod covering;
+mod covering_children;
+mod directory_listing;
+mod directory_names;
 mod edit;
 mod fault;
-mod fits;
-mod listing;
-mod meta;
-mod mode;
+mod mode_and_owner;
+mod mode_texts;
 mod name;
-mod names;
 mod node;
 mod overlay;
-mod passing;
+mod overlay_settings;
+mod overlay_writing;
 mod path;
-mod pieces;
-mod putting;
-mod settings;
-mod tested;
+mod path_length_check;
+mod selected_paths;
+mod selected_removal;
 mod tree;
 mod walk;
-mod writing;
 
 pub use children::Children;
 pub use content::Content;
+pub use directory_names::Names;
 pub use fault::TreeFault;
 pub use llb_wire::{Bytes, Text};
-pub use meta::Meta;
-pub use mode::Mode;
+pub use mode_and_owner::Meta;
+pub use mode_texts::Mode;
 pub use name::Name;
-pub use names::Names;
 pub use node::{Child, Entry, Node};
+pub use overlay_settings::OverlaySettings;
 pub use path::Path;
-pub use settings::OverlaySettings;
-pub use tested::NameTest;
+pub use selected_removal::NameTest;
 pub use tree::Tree;
 pub use walk::Walk;

@@ -7,10 +7,10 @@ ghost use Rattle.std.specs.FinMap as finite;
 ghost use Rattle.llb_tree.specs.Tree.{is_memory, walk, Dir};
 ghost use Rattle.llb_tree.specs.Nodes.{AreSorted, dir_look, file_look, pair_of, place, look_in, seen};
 
+use crate::child_pieces::child_of;
 use crate::fault::TreeFault;
-use crate::meta::Meta;
+use crate::mode_and_owner::Meta;
 use crate::name::Name;
-use crate::pieces::child_of;
 use llb_wire::Bytes;
 use std::alloc::{AllocError, Global};
 use std::cmp::Ordering;

@@ -13,15 +13,15 @@ ghost use Rattle.llb_tree.specs.Overlay.{over_at};
 ghost use Rattle.llb_tree.specs.Laying.{Lays, IsLaid, AreLaid, PiecesLaid, IsOver};
 ghost use Rattle.llb_tree.specs.Laying.{TakesWhole, StandWhole, Covers, those, those_pieces, dress, dress_pair};
 
+use crate::child_insertion::put_all;
+use crate::child_pieces::{child_near, child_of, in_pieces};
 use crate::children::Children;
-use crate::covering::covers;
+use crate::covering_children::covers;
 use crate::fault::TreeFault;
 use crate::node::{Child, Kind, Node, Piece};
-use crate::pieces::{child_near, child_of, in_pieces};
-use crate::putting::put_all;
-use crate::settings::OverlaySettings;
+use crate::overlay_settings::OverlaySettings;
+use crate::overlay_writing::{with_node, with_rows};
 use crate::tree::Tree;
-use crate::writing::{with_node, with_rows};
 use std::alloc::{AllocError, Global};
 use std::sync::Arc;
 

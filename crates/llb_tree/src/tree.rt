@@ -10,7 +10,7 @@ ghost use Rattle.llb_tree.specs.Tree.{dir_there, file_fits, dir_fits, found};
 ghost use Rattle.llb_tree.specs.Nodes.{seen};
 
 use crate::fault::TreeFault;
-use crate::meta::Meta;
+use crate::mode_and_owner::Meta;
 use crate::name::Name;
 use crate::node::{Entry, Node};
 use crate::path::Path;

@@ -6,12 +6,12 @@ use Rattle.std.proofs.lemmas.List.Elements.{All-append, All-cons, All-nil}
 use Rattle.std.specs.Ordering.{is_eq, eq_by_cmp}
 use Rattle.std.specs.Option.{option_map}
 use Rattle.std.specs.FinMap as finite
-use Rattle.llb_wire.specs.Answer.{◌>>=◌}
+use Rattle.llb_wire.specs.CallResults.{◌>>=◌}
 use Rattle.llb_wire.proofs.RuleComposition.{bind_ok}
 use Rattle.llb_wire.specs.Hexadecimal.{bytes_in, hex_text}
 use Rattle.llb_tree.specs.Path.{is_name, path_cmp, is_within, IsPath}
 use Rattle.llb_tree.specs.PathOrder.{path_cmp-IsTotalOrder, path_cmp-IsAntisymmetric, same_path}
-use Rattle.llb_tree.specs.Meta.{MetaValue, new_dir_meta}
+use Rattle.llb_tree.specs.ModeAndOwner.{MetaValue, new_dir_meta}
 use Rattle.llb_tree.specs.Tree.{Entry, Dir, File, TreeMap, walk, file_fits, put_file, empty_tree, IsTree}
 use Rattle.llb_tree.proofs.EditedMaps.{by_place, tied_below, apart, none_below}
 use Rattle.llb_tree.proofs.PathsBelow.{within-append, cmp-append}
@@ -19,10 +19,10 @@ use Rattle.llb_tree.specs.declared.fault.TreeFault.{TreeFault}
 use Rattle.llb_treetext.specs.TreeText.{names_text, path_text}
 use Rattle.llb_treetext.specs.TextGrammar.{IsRow}
 use Rattle.llb_treetext.specs.LineFields.{Fields, parts_from}
-use Rattle.llb_treetext.specs.RowPlacement.{put_row}
+use Rattle.llb_treetext.specs.TreeAfterNextLine.{put_row}
 use Rattle.llb_treetext.specs.GrowingTree.{HasBelow, IsGrownIfAny, Follows}
-use Rattle.llb_treetext.specs.declared.parts.Parts.{Parts}
-use Rattle.llb_treetext.specs.declared.grow.Growing.{Growing}
+use Rattle.llb_treetext.specs.declared.line_fields.Parts.{Parts}
+use Rattle.llb_treetext.specs.declared.growing_tree.Growing.{Growing}
 use Rattle.llb_treetext.proofs.SlashedNames.{names_more, names_front, names_split, no_names_left}
 use Rattle.llb_wire.proofs.HexTexts.{content_is}
 

@@ -15,13 +15,13 @@ use Rattle.hex.specs.Hex.{encode_with, lower_digits}
 use Rattle.llb_wire.specs.Spelling.{AreBytes}
 use Rattle.llb_wire.specs.Hexadecimal.{hex_text, is_lower, is_hex}
 use Rattle.llb_tree.specs.Path.{is_name, IsPath, parts_of}
-use Rattle.llb_tree.specs.Meta.{MetaValue, IsMeta, meta_of}
-use Rattle.llb_tree.specs.Modes.{is_octal_digit, octal, mode_of}
+use Rattle.llb_tree.specs.ModeAndOwner.{MetaValue, IsMeta, meta_of}
+use Rattle.llb_tree.specs.ModeTexts.{is_octal_digit, octal, mode_of}
 use Rattle.llb_tree.specs.Tree.{Dir, File}
 use Rattle.llb_treetext.specs.TreeText.{mode_text, meta_text, path_text, row_text, line_of}
 use Rattle.llb_treetext.specs.TextGrammar.{IsRow, Begins}
 use Rattle.llb_treetext.specs.LineScanning.{Spells}
-use Rattle.llb_treetext.specs.declared.parts.Parts.{Parts}
+use Rattle.llb_treetext.specs.declared.line_fields.Parts.{Parts}
 use Rattle.std.specs.Option.{option_map}
 use Rattle.llb_treetext.specs.LineFields.{Fields, on, cut_at, mode_in, number_from, decimal_in, meta_in, are_names, is_path, dir_parts}
 use Rattle.llb_treetext.specs.LineFields.{file_parts, parts_in, parts_seen, parts_from, row_from}

@@ -21,8 +21,8 @@ use Rattle.llb_wire.specs.Spelling.{AreBytes}
 use Rattle.llb_wire.specs.Hexadecimal.{hex_text}
 use Rattle.llb_wire.proofs.HexTexts.{content_is, is_content_text}
 use Rattle.llb_tree.specs.Path.{is_name, is_name_byte, IsPath, joined, path_of}
-use Rattle.llb_tree.specs.Meta.{MetaValue, IsMeta, meta_of}
-use Rattle.llb_tree.specs.Modes.{is_octal_digit, octal}
+use Rattle.llb_tree.specs.ModeAndOwner.{MetaValue, IsMeta, meta_of}
+use Rattle.llb_tree.specs.ModeTexts.{is_octal_digit, octal}
 use Rattle.llb_tree.specs.Tree.{Entry, Dir, File}
 use Rattle.llb_treetext.specs.TreeText.{mode_text, meta_text, names_text, path_text, row_text}
 use Rattle.llb_treetext.specs.TextGrammar.{IsRow}

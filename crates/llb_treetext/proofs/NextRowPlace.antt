@@ -7,20 +7,20 @@ use Rattle.std.proofs.lemmas.List.Elements.{All-nil, All-cons, All-head, All-tai
 use Rattle.std.specs.Ordering.{is_lt}
 use Rattle.std.specs.FinMap as finite
 use Rattle.llb_tree.specs.Path.{is_name, IsPath, path_cmp}
-use Rattle.llb_tree.specs.Meta.{MetaValue, IsMeta, new_dir_meta}
+use Rattle.llb_tree.specs.ModeAndOwner.{MetaValue, IsMeta, new_dir_meta}
 use Rattle.llb_tree.specs.Tree.{Entry, Dir, File, Look, TreeMap, parents, all_dirs, walk, IsDirAt, IsAllowedAt, IsTree, empty_tree}
 use Rattle.llb_tree.proofs.SubtreeEntries.{walk-cons}
 use Rattle.llb_tree.proofs.PathsBelow.{between, within_split}
 use Rattle.llb_treetext.specs.TreeText.{names_text, path_text, line_of}
 use Rattle.llb_treetext.specs.TextGrammar.{IsRow, IsFault, comes_next}
 use Rattle.llb_treetext.specs.LineFields.{Fields, parts_seen, parts_from, trail}
-use Rattle.llb_treetext.specs.declared.parts.Parts.{Parts}
+use Rattle.llb_treetext.specs.declared.line_fields.Parts.{Parts}
 use Rattle.llb_treetext.specs.declared.fault.TextFault.TheVariants.{Order, NoParent}
 use Rattle.std.specs.Option.{option_map, is_none}
 use Rattle.std.proofs.lemmas.Bool.{eqb-true, eq-eqb}
 use Rattle.llb_tree.specs.PathOrder.{path_cmp-IsTotalOrder}
-use Rattle.llb_treetext.specs.RowPlacement.{put_row, GoesOn, IsFront, IsLast, is_dir, opens, trail_cmp}
-use Rattle.llb_treetext.specs.declared.judge.Place.{Place}
+use Rattle.llb_treetext.specs.TreeAfterNextLine.{put_row, GoesOn, IsFront, IsLast, is_dir, opens, trail_cmp}
+use Rattle.llb_treetext.specs.declared.line_check.Place.{Place}
 use Rattle.llb_treetext.proofs.RowLines.{Pair}
 use Rattle.llb_treetext.proofs.UniqueReading.{there, entry_is_row, at_end}
 use Rattle.llb_treetext.proofs.RowAppending.{find_behind, entries_put, goes_on, put_ok, not_there, not_root, less_true}

@@ -12,15 +12,15 @@ use Rattle.std.specs.FinMap as finite
 use Rattle.std.specs.FinMap.Entries.{by_order}
 use Rattle.llb_tree.specs.Path.{path_cmp}
 use Rattle.llb_tree.specs.PathOrder.{path_cmp-IsTotalOrder}
-use Rattle.llb_tree.specs.Meta.{MetaValue, new_dir_meta}
+use Rattle.llb_tree.specs.ModeAndOwner.{MetaValue, new_dir_meta}
 use Rattle.llb_tree.specs.Tree.{Entry, Dir, File, TreeMap, walk, dir_fits, file_fits, IsTree, empty_tree}
 use Rattle.llb_tree.specs.declared.fault.TreeFault.{TreeFault}
 use Rattle.llb_tree.proofs.EntryOrder.{is_less, and_first, and_second}
 use Rattle.llb_tree.proofs.ParentClosure.{IsTree-insert}
-use Rattle.llb_wire.specs.Answer.{◌>>=◌}
+use Rattle.llb_wire.specs.CallResults.{◌>>=◌}
 use Rattle.llb_treetext.specs.TreeText.{row_text, line_of, lines_of, tree_text}
 use Rattle.llb_treetext.specs.TextGrammar.{IsRow, IsText, IsFault, Stops, comes_next}
-use Rattle.llb_treetext.specs.RowPlacement.{put_row, GoesOn, IsFront}
+use Rattle.llb_treetext.specs.TreeAfterNextLine.{put_row, GoesOn, IsFront}
 use Rattle.llb_treetext.specs.LineFields.{entry_of}
 use Rattle.llb_treetext.specs.declared.fault.TextFault.{TextFault}
 use Rattle.llb_treetext.proofs.RowLines.{Pair}

@@ -7,7 +7,7 @@ use Rattle.std.proofs.lemmas.List.Sums.{split_at_first, passes_at_first}
 use Rattle.std.proofs.lemmas.Bool.{ltb-true, eqb-true}
 use Rattle.llb_wire.specs.Spelling.{AreBytes}
 use Rattle.llb_tree.specs.Path.{IsPath}
-use Rattle.llb_tree.specs.Meta.{MetaValue, IsMeta}
+use Rattle.llb_tree.specs.ModeAndOwner.{MetaValue, IsMeta}
 use Rattle.llb_tree.specs.Tree.{Entry, Dir, File}
 use Rattle.llb_treetext.specs.TreeText.{row_text, line_of}
 use Rattle.llb_treetext.specs.TextGrammar.{IsRow}

@@ -18,7 +18,7 @@ use Rattle.std.specs.Cmp.{nat_cmp_is}
 use Rattle.llb_tree.specs.Path.{is_name, is_name_byte, IsPath, name_cmp, path_cmp}
 use Rattle.llb_treetext.specs.TreeText.{names_text, path_text}
 use Rattle.llb_treetext.specs.LineFields.{trail}
-use Rattle.llb_treetext.specs.RowPlacement.{rank, trail_cmp, opens}
+use Rattle.llb_treetext.specs.TreeAfterNextLine.{rank, trail_cmp, opens}
 use Rattle.llb_tree.proofs.NameTests.{passes_tests, no_slash, from_space}
 use Rattle.llb_treetext.proofs.EntryLineRoundTrip.{long_path}
 

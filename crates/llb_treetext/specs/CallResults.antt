@@ -2,7 +2,7 @@
 -- a value or a fault, but never the fault `Memory`.
 use Rattle.std.specs.Prelude.{ℕ, List, ◌++◌, Bool, true, false, Option, Result, codes}
 use Rattle.std.specs.Fmt.{decimal}
-use Rattle.llb_wire.specs.Answer as answer
+use Rattle.llb_wire.specs.CallResults as answer
 use Rattle.llb_treetext.specs.WrittenPrefix as output
 use Rattle.llb_treetext.specs.declared.fault.TextFault.{TextFault}
 use Rattle.llb_treetext.specs.declared.fault.TextFault.TheVariants as text

@@ -4,10 +4,10 @@ use Rattle.std.specs.FinMap as finite
 use Rattle.llb_tree.specs.Path.{is_within}
 use Rattle.llb_tree.specs.Tree.{Entry, TreeMap, IsTree}
 use Rattle.llb_treetext.specs.TreeText.{names_text}
-use Rattle.llb_treetext.specs.RowPlacement.{put_row, IsOf}
-use Rattle.llb_treetext.specs.declared.parts.Parts.{Parts}
-use Rattle.llb_treetext.specs.declared.grow.Growing.{Growing}
-use Rattle.llb_treetext.specs.declared.grow.Open.{Open}
+use Rattle.llb_treetext.specs.TreeAfterNextLine.{put_row, IsOf}
+use Rattle.llb_treetext.specs.declared.line_fields.Parts.{Parts}
+use Rattle.llb_treetext.specs.declared.growing_tree.Growing.{Growing}
+use Rattle.llb_treetext.specs.declared.growing_tree.Open.{Open}
 
 -- tree t has, at and below the path `at`, what the tree `dir` has from its root down; everywhere else, t has what the tree `above` has
 pub record HasBelow (t above : TreeMap) (at : List (List ℕ)) (dir : TreeMap) : Type 0 where

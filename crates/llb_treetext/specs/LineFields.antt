@@ -8,12 +8,12 @@ use Rattle.std.specs.Cmp.Lexicographic.{pointwise}
 use Rattle.std.specs.Result.{result_ok}
 use Rattle.llb_tree.specs.Path.{is_name, parts_of, path_of}
 use Rattle.llb_wire.specs.Hexadecimal.{hex_text, is_hex, bytes_in}
-use Rattle.llb_tree.specs.Meta.{MetaValue, meta_of}
-use Rattle.llb_tree.specs.Modes.{mode_of}
+use Rattle.llb_tree.specs.ModeAndOwner.{MetaValue, meta_of}
+use Rattle.llb_tree.specs.ModeTexts.{mode_of}
 use Rattle.llb_tree.specs.Tree.{Entry, Dir, File}
 use Rattle.llb_treetext.specs.TreeText.{path_text}
-use Rattle.llb_treetext.specs.declared.parts.Parts.{Parts}
-use Rattle.llb_treetext.specs.declared.row.Row.{Row}
+use Rattle.llb_treetext.specs.declared.line_fields.Parts.{Parts}
+use Rattle.llb_treetext.specs.declared.path_and_entry.Row.{Row}
 
 -- f applied to a value, if there is one; else nothing
 abbrev pub on : {A B : Type 0} → Option A → (A → Option B) → Option B

@@ -5,7 +5,7 @@ use Rattle.llb_tree.specs.Tree.{Entry}
 use Rattle.llb_treetext.specs.TreeText.{row_text, line_of}
 use Rattle.llb_treetext.specs.TextGrammar.{IsRow, Begins}
 use Rattle.llb_treetext.specs.LineFields.{parts_seen, parts_from}
-use Rattle.llb_treetext.specs.declared.parts.Parts.{Parts}
+use Rattle.llb_treetext.specs.declared.line_fields.Parts.{Parts}
 
 -- the line is the line of an entry, and has the given fields; or no fields are given, and the line is not the line of any entry
 abbrev pub Spells : List ℕ → Option Parts → Type 0

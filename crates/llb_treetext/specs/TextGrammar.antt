@@ -3,7 +3,7 @@ use Rattle.std.specs.Prelude.{◌≡◌, ◌≢◌, ℕ, ◌+◌, Bool, true, fa
 use Rattle.std.specs.Ordering.{is_lt}
 use Rattle.std.specs.FinMap as finite
 use Rattle.llb_tree.specs.Path.{path_cmp}
-use Rattle.llb_tree.specs.Meta.{MetaValue}
+use Rattle.llb_tree.specs.ModeAndOwner.{MetaValue}
 use Rattle.llb_tree.specs.Tree.{Entry, Dir, TreeMap, IsAllowedAt, IsTree, walk}
 use Rattle.llb_treetext.specs.TreeText.{line_of, lines_of, tree_text}
 use Rattle.llb_treetext.specs.CallResults.{is_memory}

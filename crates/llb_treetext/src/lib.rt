@@ -15,14 +15,14 @@
 
 mod digest;
 mod fault;
-mod grow;
-mod judge;
+mod growing_tree;
 mod laws;
 mod line;
-mod parts;
+mod line_check;
+mod line_fields;
+mod path_and_entry;
 mod print;
 mod read;
-mod row;
 
 pub use digest::tree_digest;
 pub use fault::{PrintFault, TextFault};

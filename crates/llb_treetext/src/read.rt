@@ -4,8 +4,8 @@
 ghost use Rattle.llb_treetext.specs.TextGrammar.{Answers, MemoryIsLast};
 
 use crate::fault::TextFault;
-use crate::grow::{started, whole_if_any, with_line};
-use crate::judge::{first_line, next_line};
+use crate::growing_tree::{started, whole_if_any, with_line};
+use crate::line_check::{first_line, next_line};
 use llb_tree::Tree;
 use std::alloc::Global;
 

@@ -5,7 +5,7 @@ use Rattle.std.proofs.lemmas.Bool.{ltb-false, ltb-true}
 use Rattle.std.specs.Prelude.{IfOk, IfErr}
 use Rattle.llb_wire.specs.declared.fault.WireFault.{WireFault}
 use Rattle.llb_wire.specs.declared.fault.WireFault.TheVariants.{Truncated, LongVarint, BadField, BadWireType}
-use Rattle.llb_wire.specs.Answer.{◌>>=◌}
+use Rattle.llb_wire.specs.CallResults.{◌>>=◌}
 use Rattle.llb_wire.specs.Reading.{varint_from, varint_at}
 use Rattle.llb_wire.specs.Spelling.{IsOpen, IsLong, VarintAt, VarintCause, CutVarint, AreBytes}
 use Rattle.llb_wire.proofs.Varints.{varint_found}

@@ -9,7 +9,7 @@ use Rattle.llb_wire.specs.declared.fault.WireFault.TheVariants.{Truncated}
 use Rattle.llb_wire.specs.declared.field.Wire.{Wire}
 use Rattle.llb_wire.specs.declared.field.Wire.TheVariants as wire
 use Rattle.llb_wire.specs.declared.field.Field.{Field}
-use Rattle.llb_wire.specs.Answer.{◌>>=◌}
+use Rattle.llb_wire.specs.CallResults.{◌>>=◌}
 use Rattle.llb_wire.proofs.RuleComposition.{bind_ok, guard_ok}
 use Rattle.llb_wire.specs.Reading.{varint_from, varint_at, number_of, wire_of, fixed_at, as_field, payload_at, field_at}
 use Rattle.llb_wire.proofs.Varints.{short_or, varint_len}

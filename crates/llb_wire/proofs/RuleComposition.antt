@@ -1,7 +1,7 @@
 -- Laws of rules that are applied one after another.
 use Rattle.std.specs.Prelude.{◌≡◌, Bool, true, false, cond, Result, Ok, Err}
 use Rattle.std.proofs.Common.{refl}
-use Rattle.llb_wire.specs.Answer.{◌>>=◌}
+use Rattle.llb_wire.specs.CallResults.{◌>>=◌}
 
 -- if two rules, applied one after the other, return `y`, then the first rule returns some `x`, and the second one returns `y` for this `x`
 pub bind_ok : {A B F : Type 0} (r : Result A F) (f : A → Result B F) (y : B) → (r >>= f) ≡ Ok y → (x : A) × (r ≡ Ok x) × (f x ≡ Ok y)

@@ -1,6 +1,6 @@
--- Read first Answer (how a result is specified, in every crate), Spelling (the grammar of the wire), Reading (a record from left to right, with its first
+-- Read first CallResults (how a result is specified, in every crate), Spelling (the grammar of the wire), Reading (a record from left to right, with its first
 -- fault) and Records, then Sink (what takes bytes), Hexadecimal, TextComparison, Decimal, Digest, Hashing and Faults.
-pub mod Answer
+pub mod CallResults
 pub mod Spelling
 pub mod Reading
 pub mod Records

@@ -15,30 +15,30 @@
 //!     Some(field.value) // 150
 #![tactic(auto)]
 
-mod boxed;
 mod bytes;
 mod decimal;
 mod fault;
 mod field;
+mod heap_value;
 mod hexadecimal;
 mod laws;
-mod many;
-mod reading;
+mod owned_list;
+mod record_reading;
+mod record_writing;
 mod same;
 mod sink;
 mod text;
-mod writing;
 
-pub use boxed::Boxed;
 pub use bytes::Bytes;
 pub use decimal::magnitude;
 pub use fault::{Memory, WireFault};
 pub use field::{Field, Wire};
+pub use heap_value::Boxed;
 pub use hexadecimal::{is_hex, push_hex, read_hex, text_of_digest};
 pub use laws::{spells_one_list, walk_meets_what_is_spelled};
-pub use many::Many;
-pub use reading::{next_record, varint};
+pub use owned_list::Many;
+pub use record_reading::{next_record, varint};
+pub use record_writing::{write_record, write_varint};
 pub use same::{Same, all_same};
 pub use sink::{Failed, Over, Sink, write_all};
 pub use text::Text;
-pub use writing::{write_record, write_varint};

@@ -1,4 +1,4 @@
-pub mod Crossing
+pub mod ThreadTransfers
 pub mod DriverEvents
 pub mod WorkerEventCounts
 pub mod DriverRunEnds

@@ -1,6 +1,6 @@
 -- The parts of the workers, joined in their order, are the whole.
 use Rattle.std.proofs.Common.{add-one, ◌≡◌, ℕ, zero, suc, ◌+◌, ◌*◌, ◌^◌, ◌/◌, ◌<◌, sym, ap, ◌∙◌, subst, arith}
-use Rattle.llb_ready.specs.declared.hand.Hand.{Hand}
+use Rattle.llb_ready.specs.declared.pass_knowledge.Hand.{Hand}
 use Rattle.llb_ready.specs.PassKnowledge.{together}
 use Rattle.std.proofs.Math.Nat.{mul-pos, mul-div_cancel, pow-suc}
 

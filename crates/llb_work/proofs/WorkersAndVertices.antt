@@ -16,7 +16,7 @@ use Rattle.llb_board.specs.PlainVertexJobs.{plain_job}
 use Rattle.llb_work.specs.LockSharingWorkers.{IsAfter}
 use Rattle.llb_work.specs.Tasks.{IsClaimed}
 use Rattle.llb_work.specs.RunEnds.{is_of, may_be, StopsSomewhere}
-use Rattle.llb_work.specs.declared.noted.Noted.TheVariants.{Stopped}
+use Rattle.llb_work.specs.declared.early_end.Noted.TheVariants.{Stopped}
 use Rattle.llb_work.proofs.BoardContinuations.{goes_from}
 
 both : (a b : Bool) → a ≡ true → b ≡ true → (a && b) ≡ true

@@ -1,7 +1,7 @@
 -- What a fault of a run prints: its number.
 use Rattle.std.specs.Prelude.{ℕ, List, codes}
-use Rattle.llb_work.specs.declared.end.RunFault.{RunFault}
-use Rattle.llb_work.specs.declared.end.RunFault.TheVariants as fault
+use Rattle.llb_work.specs.declared.run_end.RunFault.{RunFault}
+use Rattle.llb_work.specs.declared.run_end.RunFault.TheVariants as fault
 
 -- the text of a fault of a run
 abbrev pub run_text : RunFault → List ℕ

@@ -2,11 +2,11 @@
 use Rattle.std.specs.Prelude.{◌≡◌, ℕ, ◌<◌, ◌&&◌, ◌⊎◌, nat_lt, List, length, Bool, true, false, Option, Some, None, IsTrue}
 use Rattle.llb_board.specs.BoardValue.{BoardValue}
 use Rattle.llb_work.specs.LockSharingWorkers.{GoesOn, CancelsNothing, Counts, IsAfter, AreIdle}
-use Rattle.llb_work.specs.declared.crew.CrewEnd.{CrewEnd}
-use Rattle.llb_work.specs.declared.end.RunFault.{RunFault}
-use Rattle.llb_work.specs.declared.end.RunFault.TheVariants.{Memory, Stopped, Thread, Foreign}
-use Rattle.llb_work.specs.declared.noted.Noted.{Noted}
-use Rattle.llb_work.specs.declared.noted.Noted.TheVariants as noted
+use Rattle.llb_work.specs.declared.thread_scope.CrewEnd.{CrewEnd}
+use Rattle.llb_work.specs.declared.run_end.RunFault.{RunFault}
+use Rattle.llb_work.specs.declared.run_end.RunFault.TheVariants.{Memory, Stopped, Thread, Foreign}
+use Rattle.llb_work.specs.declared.early_end.Noted.{Noted}
+use Rattle.llb_work.specs.declared.early_end.Noted.TheVariants as noted
 
 -- whether the fault is 154 `Foreign`: the copy of the opening board under the lock differs from the board passed to the run
 abbrev pub is_foreign : Option RunFault → Bool

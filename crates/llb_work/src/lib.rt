@@ -5,7 +5,7 @@
 //! Promise: `run_workers` (`leads`, `complete`, `idle`, `stopped`, `own`): granted events lead from the given board to the returned one, whatever
 //! the fault; no worker runs anything on the returned board, unless memory was refused before a thread was started; without a fault the board is
 //! complete. `run_alone` (`goes`, `ends`, `order`, `plain`) does the events that `chosen` of `llb_model` names, one after another. By an invariant of
-//! the value under the lock (`src/watch.rt`), all workers wait only if the board is complete or a fault is noted. That threads are run, get the lock
+//! the value under the lock (`src/locked_value.rt`), all workers wait only if the board is complete or a fault is noted. That threads are run, get the lock
 //! and are woken is tested, and not proved.
 //!
 //! A caller:
@@ -17,24 +17,24 @@
 //!     }
 #![tactic(auto)]
 
-mod alone;
-mod crew;
-mod driver;
-mod end;
-mod hand_out;
-mod idle;
+mod dropped_trees;
+mod early_end;
+mod event_counts;
+mod idle_workers;
 mod key_waiters;
-mod noted;
-mod owners;
-mod plain;
+mod locked_value;
+mod one_thread_run;
+mod plain_vertices;
 mod run;
+mod run_end;
 mod shared_board;
-mod supply;
-mod tally;
-mod watch;
+mod single_thread_driver;
+mod starting_supplies;
+mod thread_scope;
 mod worker;
+mod worker_shares;
 mod worker_thread;
 
-pub use alone::run_alone;
-pub use end::{RunEnd, RunFault};
+pub use one_thread_run::run_alone;
 pub use run::run_workers;
+pub use run_end::{RunEnd, RunFault};

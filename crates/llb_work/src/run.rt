@@ -5,11 +5,11 @@ ghost use Rattle.llb_model.specs.Run.{is_complete};
 ghost use Rattle.llb_work.specs.LockSharingWorkers.{GoesOn, CancelsNothing, AreIdle};
 ghost use Rattle.llb_work.specs.RunEnds.{is_foreign, StopsSomewhere, StopsAsNoted, Leads, EndsIdle};
 
-use crate::crew::{CrewEnd, CrewStart, run_crew};
-use crate::driver::{cancel_all, go_to_end};
-use crate::end::{RunEnd, RunFault};
-use crate::noted::Noted;
-use crate::tally::count_record;
+use crate::early_end::Noted;
+use crate::event_counts::count_record;
+use crate::run_end::{RunEnd, RunFault};
+use crate::single_thread_driver::{cancel_all, go_to_end};
+use crate::thread_scope::{CrewEnd, CrewStart, run_crew};
 use llb_board::laws::{chosen_until_complete, is_consistent};
 use llb_board::{Board, Gate};
 use std::alloc::Global;

@@ -11,14 +11,14 @@ ghost use Rattle.llb_board.specs.PlainVertexJobs.{IsKnown};
 ghost use Rattle.llb_model.specs.CodedStores.{coded_store};
 ghost use Rattle.llb_work.specs.LockSharingWorkers.{CancelsNothing, IsAfter};
 ghost use Rattle.llb_work.specs.RunEnds.{may_be};
-ghost use Rattle.llb_work.specs.Supplies.{ArePlain};
+ghost use Rattle.llb_work.specs.StartingSupplies.{ArePlain};
 ghost use Rattle.llb_work.specs.Tasks.{IsReport, IsClaimed, IsHere};
 
+use crate::dropped_trees::Owners;
+use crate::early_end::{Gated, Noted};
+use crate::event_counts::{Tally, count};
 use crate::key_waiters::KeyWaiters;
-use crate::noted::{Gated, Noted};
-use crate::owners::Owners;
-use crate::plain::is_marked;
-use crate::tally::{Tally, count};
+use crate::plain_vertices::is_marked;
 use llb_board::laws::begun_are_plain;
 use llb_board::{
     Board, ClaimFault, Job, LandFault, Outcome, SettleFault, Settled, Status, StepFault, Stepped,

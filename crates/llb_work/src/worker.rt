@@ -6,10 +6,10 @@ ghost use Rattle.llb_work.specs.WorkerPasses.{IsPassFor};
 ghost use Rattle.llb_work.specs.RunEnds.{is_of, AllowsStops};
 ghost use Rattle.llb_work.specs.Tasks.{IsReport, IsClaimed, IsHere};
 
-use crate::crew::Crew;
-use crate::noted::{Gated, Noted};
+use crate::early_end::{Gated, Noted};
+use crate::event_counts::Tally;
 use crate::shared_board::{Report, Task};
-use crate::tally::Tally;
+use crate::thread_scope::Crew;
 use crossbeam_utils::Backoff;
 use llb_board::{Gate, Job, WorkFault, work};
 use llb_ready::ReadyPass;

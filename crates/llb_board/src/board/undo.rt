@@ -1,7 +1,7 @@
 //! Takes back the last event: puts back what the event changed.
 
 ghost use Rattle.std.specs.Prelude.{◌≡◌};
-ghost use Rattle.llb_board.specs.WalkAndUndo.{undone, CanUndo};
+ghost use Rattle.llb_board.specs.UndoableEvents.{undone, CanUndo};
 
 use crate::board::Board;
 use crate::workers::Undo;

@@ -12,9 +12,9 @@ ghost use Rattle.llb_model.specs.Program.{needs_of, program_of};
 ghost use Rattle.llb_model.specs.State.{ending_at, Running};
 ghost use Rattle.llb_model.specs.Table.{claim_grant};
 ghost use Rattle.llb_cache.specs.Caches.{CachesValue};
-ghost use Rattle.llb_board.specs.Needs.{IsFound, need_of};
-ghost use Rattle.llb_model.specs.CacheBridge.{rows_after};
-ghost use Rattle.llb_board.specs.Supplies.{supplies_for, supplies_of};
+ghost use Rattle.llb_board.specs.CacheNeeds.{IsFound, need_of};
+ghost use Rattle.llb_model.specs.TwoCacheModels.{rows_after};
+ghost use Rattle.llb_board.specs.RunningWorkerSupplies.{supplies_for, supplies_of};
 ghost use Rattle.llb_board.specs.WorkerRules as rules;
 ghost use Rattle.llb_board.specs.Vertices.{with_status};
 ghost use Rattle.llb_board.specs.WorkerModelValues.{execution_of};
@@ -22,13 +22,13 @@ ghost use Rattle.llb_board.specs.Workers.{IsBegunOn, Fits, claim_in, reply_of, s
 
 use crate::vertices::Vertices;
 use crate::workers::Workers;
-use crate::workers::instances::lease_for;
-use crate::workers::needs::{
+use crate::workers::cache_needs::{
     Wanted, asked, first_trees, instance_numbers, mount_numbers, places_found, rows_found,
     wanted_by,
 };
-use crate::workers::outfit::outfit_for;
-use crate::workers::seat::{Execution, Seat, seat_at};
+use crate::workers::claim_preparation::outfit_for;
+use crate::workers::leased_instances::lease_for;
+use crate::workers::running_workers::{Execution, Seat, seat_at};
 use llb_cache::Need;
 use llb_events::ClaimFault;
 use llb_execution::{Job, Workspace};
@@ -60,7 +60,7 @@ impl Drop for Begun {
 impl Model for Begun {
     ghost use Rattle.std.specs.Coded.{codes};
     ghost use Rattle.llb_tree.specs.CodedTrees.{coded_tree};
-    ghost use Rattle.llb_board.specs.Supplies.{supplies_of};
+    ghost use Rattle.llb_board.specs.RunningWorkerSupplies.{supplies_of};
     ghost use Rattle.llb_board.specs.WorkerModelValues.{execution_of};
     ghost use Rattle.llb_board.specs.Workers.{BegunValue};
 

@@ -3,13 +3,13 @@
 ghost use Rattle.std.specs.Prelude.{◌≡◌, ◌↔◌, ◌<◌, length, map, IsTrue};
 ghost use Rattle.llb_model.specs.Caches as model;
 ghost use Rattle.llb_model.specs.Caches.{trees_at, Has, tree_of};
-ghost use Rattle.llb_model.specs.CacheBridge.{store_of};
+ghost use Rattle.llb_model.specs.TwoCacheModels.{store_of};
 ghost use Rattle.llb_cache.specs.Caches.{trees_of};
-ghost use Rattle.llb_board.specs.Needs.{number_of};
+ghost use Rattle.llb_board.specs.CacheNeeds.{number_of};
 ghost use Rattle.llb_board.specs.Jobs.{IsBegun};
 ghost use Rattle.llb_board.specs.WorkerModelValues.{execution_of};
 
-use crate::workers::seat::Execution;
+use crate::workers::running_workers::Execution;
 use llb_cache::{Caches, Instance};
 use llb_execution::Job;
 use llb_tree::Tree;

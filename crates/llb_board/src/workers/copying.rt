@@ -1,12 +1,12 @@
 //! Copies what workers run. A copy shares the trees.
 
 ghost use Rattle.std.specs.Prelude.{◌≡◌, map, IfOk};
-ghost use Rattle.llb_board.specs.Supplies.{ready_made};
+ghost use Rattle.llb_board.specs.RunningWorkerSupplies.{ready_made};
 ghost use Rattle.llb_board.specs.WorkerUndo.{left_in};
 ghost use Rattle.llb_board.specs.WorkerModelValues.{at_of, leased_by};
 
-use crate::trees::copied_trees;
-use crate::workers::seat::{Execution, Seat};
+use crate::tree_list_copies::copied_trees;
+use crate::workers::running_workers::{Execution, Seat};
 use llb_cache::Instance;
 use llb_wire::Memory;
 use std::alloc::Global;

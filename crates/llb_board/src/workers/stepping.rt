@@ -4,21 +4,21 @@ ghost use Rattle.std.specs.Prelude.{◌≡◌, length, false, Some, OnErr, OnOk,
 ghost use Rattle.llb_execution.specs.ModelValues as parts;
 ghost use Rattle.llb_execution.specs.ModelValues.{is_skipped};
 ghost use Rattle.llb_model.specs.Table.{HasStepped, unless_failed};
-ghost use Rattle.llb_model.specs.CacheBridge.{HasLease, rows_after};
+ghost use Rattle.llb_model.specs.TwoCacheModels.{HasLease, rows_after};
 ghost use Rattle.llb_model.specs.Program as model;
 ghost use Rattle.llb_model.specs.Program.{Left, last_of};
 ghost use Rattle.llb_model.specs.Table as table;
-ghost use Rattle.llb_board.specs.Supplies.{supplies_of, supplies_for};
+ghost use Rattle.llb_board.specs.RunningWorkerSupplies.{supplies_of, supplies_for};
 ghost use Rattle.llb_events.specs.Faults.{step_memory, GivesStep};
 ghost use Rattle.llb_board.specs.WorkerRules.{worked_in};
 ghost use Rattle.llb_board.specs.WorkerModelValues.{execution_of};
 ghost use Rattle.llb_board.specs.Workers.{Fits, state_in, step_in};
-ghost use Rattle.llb_wire.specs.Answer.{MemoryLast};
+ghost use Rattle.llb_wire.specs.CallResults.{MemoryLast};
 
 use crate::vertices::Vertices;
 use crate::workers::Workers;
-use crate::workers::instances::{contents, write_back};
-use crate::workers::seat::{Execution, Seat};
+use crate::workers::leased_instances::{contents, write_back};
+use crate::workers::running_workers::{Execution, Seat};
 use llb_cache::{Caches, Lease};
 use llb_events::{StepFault, Stepped, VertexFault};
 use llb_execution::MicroStep;

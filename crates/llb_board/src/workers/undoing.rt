@@ -3,21 +3,23 @@
 
 ghost use Rattle.std.specs.Prelude.{◌≡◌, ◌<◌, ◌||◌, false, true, is_some, nat_le, length, map, option_map, slice_get, IfOk, IfErr, Err};
 ghost use Rattle.llb_events.specs.declared.event.Event.TheVariants.{Claim, Step};
-ghost use Rattle.llb_model.specs.CacheBridge.{growth_for};
-ghost use Rattle.llb_board.specs.Supplies.{needs_at, ready_made};
-ghost use Rattle.llb_board.specs.DisplacedWorkers.{MarksIn, MarksClaim, MarksStep, MarksEnd, CanPutBack};
-ghost use Rattle.llb_board.specs.DisplacedWorkers.{walk_in, walk_memory, walk_may_want, end_of, may_end, no_worker, not_running};
-ghost use Rattle.llb_board.specs.DisplacedWorkers.{back_in, workers_before, rows_before, supplies_before, change_in, change_of};
+ghost use Rattle.llb_model.specs.TwoCacheModels.{growth_for};
+ghost use Rattle.llb_board.specs.RunningWorkerSupplies.{needs_at, ready_made};
+ghost use Rattle.llb_board.specs.WorkersKeptForUndo.{MarksIn, MarksClaim, MarksStep, MarksEnd, CanPutBack};
+ghost use Rattle.llb_board.specs.WorkersKeptForUndo.{walk_in, walk_memory, walk_may_want, end_of, may_end, no_worker, not_running};
+ghost use Rattle.llb_board.specs.WorkersKeptForUndo.{back_in, workers_before, rows_before, supplies_before, change_in, change_of};
 ghost use Rattle.llb_board.specs.WorkerModelValues.{at_of, leased_by};
 ghost use Rattle.llb_board.specs.Workers.{Fits, IsCrew};
 
 use crate::fault::WalkFault;
 use crate::vertices::{Stage, Vertices};
 use crate::workers::Workers;
+use crate::workers::cache_needs::growths_of;
 use crate::workers::copying::copied;
-use crate::workers::instances::{contents, lend_again, lent_for, take_back, write_back};
-use crate::workers::needs::growths_of;
-use crate::workers::seat::{Execution, Seat, is_finished, make_idle, seat_at, step_back};
+use crate::workers::leased_instances::{contents, lend_again, lent_for, take_back, write_back};
+use crate::workers::running_workers::{
+    Execution, Seat, is_finished, make_idle, seat_at, step_back,
+};
 use llb_cache::{Caches, Growth, Lent};
 use llb_events::{CancelFault, Event, SettleFault, StepFault};
 use llb_execution::Saved;
@@ -67,7 +69,7 @@ pub(crate) struct Change {
 impl Model for Undo {
     ghost use Rattle.std.specs.Coded.{codes};
     ghost use Rattle.llb_tree.specs.CodedTrees.{coded_tree};
-    ghost use Rattle.llb_board.specs.DisplacedWorkers.{Displaced, back_in};
+    ghost use Rattle.llb_board.specs.WorkersKeptForUndo.{Displaced, back_in};
 
     ghost Value = { Displaced };
 

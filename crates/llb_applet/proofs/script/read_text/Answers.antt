@@ -7,7 +7,7 @@ use Rattle.std.proofs.lemmas.List.{length_push, drop_all}
 use Rattle.std.proofs.lemmas.Result.{err_from_is_err_and}
 use Rattle.std.specs.Str.Pattern.{FindsChar}
 use Rattle.std.specs.Str.Iter.{split_steps, split_text, split_has_more, split_pattern}
-use Rattle.llb_applet.specs.declared.join.Join.TheVariants.{Then}
+use Rattle.llb_applet.specs.declared.joined_commands.Join.TheVariants.{Then}
 use Rattle.llb_applet.specs.Words.{parts_of, calls_from, calls_of}
 use Rattle.llb_applet.specs.Scripts.{commands_of}
 use Rattle.llb_applet.specs.CallReading.{some_word, ahead, behind, with_call}

@@ -1,6 +1,6 @@
 use Rattle.std.proofs.Common.{sym, ◌∙◌}
 use Rattle.llb_model.specs.Caches.{place}
-use Rattle.llb_model.proofs.BridgeContents.{shows_instances}
+use Rattle.llb_model.proofs.TwoModelsContents.{shows_instances}
 use Rattle.llb_board.proofs.board.cached_in.Goals as goal
 
 pub returns : goal.returns

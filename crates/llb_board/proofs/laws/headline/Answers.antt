@@ -1,4 +1,4 @@
-use Rattle.llb_model.proofs.ExclusiveInstanceFrame.{locked_once, others_keep, others_ignore}
+use Rattle.llb_model.proofs.UntouchedExclusiveInstances.{locked_once, others_keep, others_ignore}
 use Rattle.llb_model.proofs.ExclusiveHolders.{held_once}
 use Rattle.llb_board.proofs.RecordedRunStates.{plain}
 use Rattle.llb_board.proofs.laws.headline.Goals as goal

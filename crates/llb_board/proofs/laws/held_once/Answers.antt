@@ -1,5 +1,5 @@
 use Rattle.llb_model.proofs.ExclusiveHolders.{held_once}
-use Rattle.llb_model.proofs.ExclusiveInstanceFrame.{locked_once}
+use Rattle.llb_model.proofs.UntouchedExclusiveInstances.{locked_once}
 use Rattle.llb_board.proofs.laws.held_once.Goals as goal
 
 pub returns-clause-instances : goal.returns-clause-instances

@@ -1,4 +1,4 @@
-use Rattle.llb_board.proofs.EventFrame.{one_each}
+use Rattle.llb_board.proofs.UntouchedByEvents.{one_each}
 use Rattle.llb_board.proofs.laws.one_worker_each.Goals as goal
 
 pub returns : goal.returns

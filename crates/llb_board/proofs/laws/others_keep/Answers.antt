@@ -1,5 +1,5 @@
-use Rattle.llb_model.proofs.ExclusiveInstanceFrame.{others_keep, others_ignore}
-use Rattle.llb_board.proofs.EventFrame.{others}
+use Rattle.llb_model.proofs.UntouchedExclusiveInstances.{others_keep, others_ignore}
+use Rattle.llb_board.proofs.UntouchedByEvents.{others}
 use Rattle.llb_board.proofs.laws.others_keep.Goals as goal
 
 pub returns-clause-workers : goal.returns-clause-workers

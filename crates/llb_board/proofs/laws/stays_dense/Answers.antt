@@ -2,7 +2,7 @@ use Rattle.std.proofs.Common.{subst}
 use Rattle.llb_model.specs.Caches.{Store}
 use Rattle.llb_model.specs.WholeRunLaws.{IsDense}
 use Rattle.llb_model.proofs.GaplessInstances.{stays_dense}
-use Rattle.llb_model.proofs.BridgeContents.{kept_dense}
+use Rattle.llb_model.proofs.TwoModelsContents.{kept_dense}
 use Rattle.llb_board.proofs.laws.stays_dense.Goals as goal
 
 pub returns-clause-here : goal.returns-clause-here

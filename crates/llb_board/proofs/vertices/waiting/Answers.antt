@@ -1,6 +1,6 @@
 use Rattle.std.proofs.Common.{◌≡◌, length, rules, arith, ap, ◌∙◌, ◌++◌, ◌∷◌, [], vec_len}
 use Rattle.std.proofs.lemmas.List.{length-replicate}
-use Rattle.llb_board.specs.declared.vertices.stage.Stage.TheVariants.{Waiting}
+use Rattle.llb_board.specs.declared.vertices.vertex_state.Stage.TheVariants.{Waiting}
 use Rattle.llb_model.proofs.Lists.{replicate_more}
 use Rattle.llb_board.proofs.vertices.waiting.Goals as goal
 

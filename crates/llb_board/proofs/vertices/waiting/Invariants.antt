@@ -1,5 +1,5 @@
 use Rattle.std.specs.Prelude.{vec_capacity}
-use Rattle.llb_board.specs.declared.vertices.stage.Stage.TheVariants.{Waiting}
+use Rattle.llb_board.specs.declared.vertices.vertex_state.Stage.TheVariants.{Waiting}
 use Rattle.llb_board.proofs.Lists.{Replicated}
 use Rattle.llb_board.proofs.vertices.waiting.Given as goal
 

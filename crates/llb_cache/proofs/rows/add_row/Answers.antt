@@ -2,7 +2,7 @@ use Rattle.std.proofs.Common.{◌≡◌, List, ℕ, insert, length, Result, Ok, 
 use Rattle.std.specs.Prelude.{if◌then◌else◌}
 use Rattle.llb_cache.specs.declared.key.Key.{Key}
 use Rattle.llb_cache.specs.Caches.{Row}
-use Rattle.llb_cache.proofs.FirstRows.{absent_found, written_absent}
+use Rattle.llb_cache.proofs.FirstRowOfKey.{absent_found, written_absent}
 use Rattle.llb_cache.specs.RowOrder.{IsOrdered, IsPlace}
 use Rattle.llb_cache.proofs.RowInsertion.{ordered_pushed}
 use Rattle.llb_cache.proofs.rows.add_row.Goals as goal

@@ -4,8 +4,8 @@ use Rattle.llb_tree.specs.Tree.{TreeMap}
 use Rattle.llb_cache.specs.declared.key.Key.{Key}
 use Rattle.llb_cache.specs.Key.{same_key}
 use Rattle.llb_cache.specs.Caches.{Row, with_trees}
-use Rattle.llb_cache.specs.FirstRows.{set_trees}
-use Rattle.llb_cache.specs.LeaseGrowth.{shorter}
+use Rattle.llb_cache.specs.FirstRowOfKey.{set_trees}
+use Rattle.llb_cache.specs.LeaseAdditions.{shorter}
 use Rattle.llb_cache.proofs.TreesOfKeys.{trees_written}
 use Rattle.llb_cache.proofs.MarksByRow.{keys_stay}
 use Rattle.llb_cache.proofs.RowInsertion.{ordered_again}

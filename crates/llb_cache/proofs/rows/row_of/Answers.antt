@@ -2,7 +2,7 @@ use Rattle.std.proofs.Common.{◌≡◌, ◌<◌, ◌≤◌, false, true, length
 use Rattle.std.proofs.lemmas.List.{get_or_default}
 use Rattle.llb_cache.specs.Key.{same_key}
 use Rattle.llb_cache.specs.RowOrder.{key_at, row_at}
-use Rattle.llb_cache.specs.FirstRows.{IsAbsent}
+use Rattle.llb_cache.specs.FirstRowOfKey.{IsAbsent}
 use Rattle.llb_cache.proofs.RowInsertion.{IsRow, none_here, row_here, nowhere, key_read}
 use Rattle.llb_cache.proofs.rows.row_of.Goals as goal
 use Rattle.llb_cache.proofs.rows.row_of.Goals.{After-is, After-len}

@@ -1,8 +1,8 @@
 use Rattle.std.proofs.Common.{◌≡◌, ◌∙◌, ap, sym, map, length, List, rules}
 use Rattle.std.specs.List.{range_with_len}
-use Rattle.llb_ops.specs.declared.file.Action.{Action}
+use Rattle.llb_ops.specs.declared.file_op.Action.{Action}
 use Rattle.llb_model.specs.Program.{outputs_of, tree_for}
-use Rattle.llb_mount.specs.declared.shown.Shown.{Shown}
+use Rattle.llb_mount.specs.declared.shown_tree.Shown.{Shown}
 use Rattle.llb_loader.specs.Rules.{mount_outputs}
 use Rattle.llb_execution.specs.ModelValues.{own_of}
 use Rattle.llb_execution.specs.Outputs.{numbers_of, tree_by}

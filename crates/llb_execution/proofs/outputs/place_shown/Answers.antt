@@ -1,7 +1,7 @@
 use Rattle.std.proofs.Common.{◌≡◌, ◌++◌, ◌∷◌, length, ap, sym, ◌∙◌, rules, [], vec_len}
 use Rattle.std.specs.Prelude.{slice_get}
 use Rattle.std.proofs.lemmas.List.{map-append}
-use Rattle.llb_mount.specs.declared.shown.Shown.{Shown}
+use Rattle.llb_mount.specs.declared.shown_tree.Shown.{Shown}
 use Rattle.llb_loader.specs.Rules.{mount_outputs}
 use Rattle.llb_execution.specs.Outputs.{placed_by}
 use Rattle.std.proofs.lemmas.List.{length-map}

@@ -2,7 +2,7 @@ use Rattle.std.proofs.Common.{rules, ◌≡◌, ◌+◌, [], length, drop, sym, 
 use Rattle.std.proofs.lemmas.Bool.{false≢true}
 use Rattle.std.proofs.lemmas.List.{drop_all}
 use Rattle.std.specs.FinMap as finite
-use Rattle.llb_wire.specs.Answer.{◌>>=◌}
+use Rattle.llb_wire.specs.CallResults.{◌>>=◌}
 use Rattle.llb_tree.specs.Tree as tree
 use Rattle.llb_tree.specs.Tree.{is_memory}
 use Rattle.llb_fileop.specs.Removing.{matching}

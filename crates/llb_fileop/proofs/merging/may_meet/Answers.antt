@@ -1,6 +1,6 @@
 use Rattle.std.proofs.Common.{rules, ◌≡◌, ap, sym, ◌∙◌, drop, Err, false}
 use Rattle.std.specs.FinMap as finite
-use Rattle.llb_wire.specs.Answer.{◌>>=◌}
+use Rattle.llb_wire.specs.CallResults.{◌>>=◌}
 use Rattle.llb_tree.specs.PathEntries.{seen}
 use Rattle.llb_tree.specs.Tree.{is_memory}
 use Rattle.llb_fileop.specs.CopyPlacement.{all_meet}

@@ -2,7 +2,7 @@ use Rattle.std.proofs.Common.{sym, arith}
 use Rattle.llb_loader.specs.RowLookup.{terminal_in}
 use Rattle.llb_findings.specs.Findings.{ops_in}
 use Rattle.llb_findings.proofs.OpsAndRules.{ops_len}
-use Rattle.llb_loader.proofs.LinkedRowRefusals.{graph_len, graph_below}
+use Rattle.llb_loader.proofs.RefusalsOfRows.{graph_len, graph_below}
 use Rattle.llb_findings.proofs.LinkedFindings.{seen_exact, cycle_found, cycle_not}
 use Rattle.llb_findings.proofs.finding.add_cycle_from.Goals as goal
 

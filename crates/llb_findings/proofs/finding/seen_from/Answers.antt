@@ -2,7 +2,7 @@ use Rattle.std.proofs.Common.{sym, arith, ◌∙◌}
 use Rattle.llb_loader.specs.RowLookup.{terminal_in}
 use Rattle.llb_findings.specs.Findings.{ops_in}
 use Rattle.llb_findings.proofs.OpsAndRules.{ops_len}
-use Rattle.llb_loader.proofs.LinkedRowRefusals.{graph_len, graph_below}
+use Rattle.llb_loader.proofs.RefusalsOfRows.{graph_len, graph_below}
 use Rattle.llb_loader.proofs.PlanRefusals.{started_below}
 use Rattle.llb_findings.specs.Findings.{plan_for}
 use Rattle.llb_findings.proofs.LinkedFindings.{started, none_seen, all_seen}

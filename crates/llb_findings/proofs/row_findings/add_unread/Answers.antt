@@ -5,7 +5,7 @@ use Rattle.std.proofs.lemmas.List.{length_push}
 use Rattle.std.proofs.lemmas.List.Elements.{All-push}
 use Rattle.llb_ops.specs.declared.op.Op.{Op}
 use Rattle.llb_ops.specs.OpsWithinLimits.{IsWithinLimits}
-use Rattle.llb_loader.specs.Linking.{op_at}
+use Rattle.llb_loader.specs.GraphOfRows.{op_at}
 use Rattle.llb_loader.specs.WaitingRows.{IsMarked}
 use Rattle.llb_findings.specs.Findings.{plan_for, IsFaultIn, op_or_none, reading_at, entry_at}
 use Rattle.llb_findings.proofs.SelectionParts.{adds_joined_none, adds_joined}

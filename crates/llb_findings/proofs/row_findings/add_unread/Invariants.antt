@@ -2,7 +2,7 @@ use Rattle.std.proofs.Common.{◌≡◌, ◌↔◌, ℕ, ◌<◌, length}
 use Rattle.std.specs.Prelude.{IsOk}
 use Rattle.std.specs.List.{All}
 use Rattle.llb_ops.specs.OpsWithinLimits.{IsWithinLimits}
-use Rattle.llb_loader.specs.Linking.{op_at}
+use Rattle.llb_loader.specs.GraphOfRows.{op_at}
 use Rattle.llb_loader.specs.WaitingRows.{IsMarked}
 use Rattle.llb_findings.specs.Findings.{plan_for, IsFaultIn, op_or_none, reading_at, entry_at}
 use Rattle.llb_findings.specs.Selections.{Adds, joined_below}

@@ -1,5 +1,5 @@
 use Rattle.std.proofs.Common.{◌≡◌, ◌+◌, ◌<◌, ℕ, List, Option, None, length, get_or, sym, ◌∙◌, ap, subst, arith}
-use Rattle.llb_loader.specs.Linking.{op_at}
+use Rattle.llb_loader.specs.GraphOfRows.{op_at}
 use Rattle.llb_findings.specs.FindingSteps.{IsCount}
 use Rattle.std.proofs.lemmas.List.{length_push}
 use Rattle.llb_loader.proofs.OpAndInputReads.{op_read}

@@ -1,5 +1,5 @@
 use Rattle.std.proofs.Common.{◌≡◌, ℕ, ◌<◌, length, get_or, None}
-use Rattle.llb_loader.specs.Linking.{op_at}
+use Rattle.llb_loader.specs.GraphOfRows.{op_at}
 use Rattle.llb_findings.specs.FindingSteps.{IsCount}
 use Rattle.llb_findings.proofs.row_findings.counts_of.Given as goal
 

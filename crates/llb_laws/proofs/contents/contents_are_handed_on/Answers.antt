@@ -1,6 +1,6 @@
 use Rattle.llb_laws.specs.ContentLaws.{By, ExpandsTo}
 use Rattle.llb_laws.proofs.AnyNames.{hands_on}
-use Rattle.llb_laws.proofs.ContentExchanges.{hands_on_undigested, hands_contents_on}
+use Rattle.llb_laws.proofs.ContentRelations.{hands_on_undigested, hands_contents_on}
 use Rattle.llb_laws.proofs.Tokens.{hands_tokens_on}
 use Rattle.llb_laws.proofs.contents.contents_are_handed_on.Goals as goal
 

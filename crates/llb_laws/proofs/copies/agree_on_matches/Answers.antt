@@ -4,7 +4,7 @@ use Rattle.llb_fileop.specs.Copying.{EachMatch}
 use Rattle.llb_fileop.proofs.MatchedSubtrees.{sources_are}
 use Rattle.llb_loader.proofs.OutputNumbers.{false_when}
 use Rattle.llb_laws.specs.CopiedPaths.{AgreeBelowEach, AgreeOn}
-use Rattle.llb_laws.proofs.Plans.{differ}
+use Rattle.llb_laws.proofs.TokenPlans.{differ}
 use Rattle.llb_laws.proofs.TreesBelow.{agree_on_both, agree_on_each, with_ok}
 use Rattle.llb_laws.proofs.copies.agree_on_matches.Goals as goal
 

@@ -1,5 +1,5 @@
 use Rattle.std.proofs.Common.{ℕ, ◌<◌}
-use Rattle.llb_loader.specs.Linking.{input_at}
+use Rattle.llb_loader.specs.GraphOfRows.{input_at}
 use Rattle.llb_laws.specs.Renaming.{AreNamedAlike}
 use Rattle.llb_laws.proofs.renaming.are_inputs_alike.Given as goal
 

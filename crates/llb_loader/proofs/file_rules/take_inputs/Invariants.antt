@@ -1,5 +1,5 @@
 use Rattle.std.proofs.Common.{ℕ, ◌+◌, ◌<◌, slice_index_or}
-use Rattle.llb_ops.specs.declared.file.Action.{Action}
+use Rattle.llb_ops.specs.declared.file_op.Action.{Action}
 use Rattle.llb_loader.specs.Rules.{IsInput, TakesSecond}
 use Rattle.llb_loader.proofs.file_rules.take_inputs.Given as goal
 

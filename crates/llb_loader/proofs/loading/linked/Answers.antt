@@ -1,10 +1,10 @@
 use Rattle.std.proofs.Common.{◌≡◌, ℕ, List, length, sym, ◌∙◌, ap, subst, arith}
 use Rattle.std.proofs.lemmas.Result.{MatchResult-weaker}
 use Rattle.llb_loader.specs.declared.row.Row.{Row}
-use Rattle.llb_loader.specs.BareRows.{with_bytes, AreBare, titles_from}
+use Rattle.llb_loader.specs.RowsWithoutBytes.{with_bytes, AreBare, titles_from}
 use Rattle.llb_loader.specs.LoadResult.{rows_from}
-use Rattle.llb_loader.specs.LinkResult.{IsGraphOf, IsRefusalOf}
-use Rattle.llb_loader.proofs.BareRowBytes.{titles_with, titles_bare, titles_len}
+use Rattle.llb_loader.specs.GraphOfRowsResult.{IsGraphOf, IsRefusalOf}
+use Rattle.llb_loader.proofs.BytesOfRows.{titles_with, titles_bare, titles_len}
 use Rattle.llb_loader.proofs.loading.linked.Goals as goal
 
 pub link_entries-requires-clause-few : goal.link_entries-requires-clause-few

@@ -10,8 +10,8 @@ use Rattle.llb_loader.specs.ReachedRows.{lists}
 use Rattle.llb_loader.specs.WaitingRows.{IsMarked, IsPlacing}
 use Rattle.llb_loader.proofs.RowReadsAndMarks.{unmarked-mark, unmarked-none}
 use Rattle.llb_loader.proofs.RowSets.{set_cut, set_least, set_drained}
-use Rattle.llb_loader.proofs.NumberingTurns.{IsFresh, WokenFrom, no_waiter, place_step, placed_weaker, woken_step, woken_end, fresh_all, order_start}
-use Rattle.llb_loader.proofs.NumberingTurns.{order_step, turn_taken, taken_pending, reached_below, looked_placed, looked_past, cycle_from_stuck}
+use Rattle.llb_loader.proofs.NumberingSteps.{IsFresh, WokenFrom, no_waiter, place_step, placed_weaker, woken_step, woken_end, fresh_all, order_start}
+use Rattle.llb_loader.proofs.NumberingSteps.{order_step, turn_taken, taken_pending, reached_below, looked_placed, looked_past, cycle_from_stuck}
 use Rattle.llb_loader.proofs.numbering.number.Goals as goal
 use Rattle.llb_loader.proofs.numbering.number.Goals.{then-seen-row+in_ok-place, else-seen-row}
 

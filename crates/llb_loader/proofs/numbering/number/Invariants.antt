@@ -6,7 +6,7 @@ use Rattle.llb_loader.specs.declared.numbering.Waiter.{Waiter}
 use Rattle.llb_loader.specs.ReachedRows.{lists}
 use Rattle.llb_loader.proofs.RowReadsAndMarks.{unmarked}
 use Rattle.llb_loader.proofs.ReachabilitySearch.{NoRow}
-use Rattle.llb_loader.proofs.NumberingTurns.{IsPlaced, IsPending, IsOrder, WokenFrom}
+use Rattle.llb_loader.proofs.NumberingSteps.{IsPlaced, IsPending, IsOrder, WokenFrom}
 use Rattle.llb_loader.proofs.numbering.number.Given as goal
 
 abbrev pub invariant-placing : goal.invariant-placing

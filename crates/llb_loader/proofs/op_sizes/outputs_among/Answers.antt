@@ -1,5 +1,5 @@
 use Rattle.std.proofs.Common.{arith, sym, ◌∙◌}
-use Rattle.llb_ops.specs.declared.file.Action.{Action}
+use Rattle.llb_ops.specs.declared.file_op.Action.{Action}
 use Rattle.llb_loader.proofs.OutputNumbers.{count_more_yes, count_more_no}
 use Rattle.llb_loader.proofs.op_sizes.outputs_among.Goals as goal
 use Rattle.llb_loader.proofs.op_sizes.outputs_among.Goals.{then-has_output, else-has_output}

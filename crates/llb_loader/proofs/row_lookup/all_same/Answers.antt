@@ -2,9 +2,9 @@ use Rattle.std.proofs.Common.{◌≡◌, ◌<◌, [], length, sym, ◌∙◌, ap
 use Rattle.std.proofs.lemmas.List.{get_or_read}
 use Rattle.llb_loader.specs.declared.row.Row.{Row}
 use Rattle.llb_loader.specs.RowLookup.{row_at}
-use Rattle.llb_loader.specs.BareRows.{with_bytes}
+use Rattle.llb_loader.specs.RowsWithoutBytes.{with_bytes}
 use Rattle.llb_loader.proofs.FirstRowOfDigest.{row_read, below_step}
-use Rattle.llb_loader.proofs.BareRowBytes.{with_len, same_with, digest_with, entry_with}
+use Rattle.llb_loader.proofs.BytesOfRows.{with_len, same_with, digest_with, entry_with}
 use Rattle.llb_loader.proofs.row_lookup.all_same.Goals as goal
 
 pub returns-then-not-same : goal.returns-then-not-same

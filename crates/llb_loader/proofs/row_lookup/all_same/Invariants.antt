@@ -1,6 +1,6 @@
 use Rattle.std.proofs.Common.{◌≡◌, ℕ, ◌<◌}
 use Rattle.llb_loader.specs.RowLookup.{row_at}
-use Rattle.llb_loader.specs.BareRows.{with_bytes}
+use Rattle.llb_loader.specs.RowsWithoutBytes.{with_bytes}
 use Rattle.llb_loader.proofs.row_lookup.all_same.Given as goal
 
 abbrev pub invariant-loop-k : goal.invariant-loop-k

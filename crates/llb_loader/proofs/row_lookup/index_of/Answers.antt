@@ -9,9 +9,9 @@ use Rattle.std.specs.Cmp.Lexicographic.{slice_cmp}
 use Rattle.std.specs.Ordering.{nat_cmp}
 use Rattle.llb_loader.specs.declared.row.Row.{Row}
 use Rattle.llb_loader.specs.RowLookup.{row_at, Collides}
-use Rattle.llb_loader.specs.BareRows.{with_bytes}
+use Rattle.llb_loader.specs.RowsWithoutBytes.{with_bytes}
 use Rattle.llb_loader.proofs.FirstRowOfDigest.{IsFirst, row_read, first_update, first_again, first_is, first_below, below_step}
-use Rattle.llb_loader.proofs.BareRowBytes.{first_of_all, firsts_push, are_firsts, with_len, fresh_with, collides_beside, equal_with, put_back}
+use Rattle.llb_loader.proofs.BytesOfRows.{first_of_all, firsts_push, are_firsts, with_len, fresh_with, collides_beside, equal_with, put_back}
 use Rattle.llb_loader.proofs.row_lookup.index_of.Goals as goal
 
 pub loop-k-preserved-in_default : goal.loop-k-preserved-in_default

@@ -3,7 +3,7 @@ use Rattle.std.specs.BTreeMap.{get_by}
 use Rattle.std.specs.Cmp.Lexicographic.{slice_cmp}
 use Rattle.std.specs.Ordering.{nat_cmp}
 use Rattle.llb_loader.specs.RowLookup.{row_at, Collides}
-use Rattle.llb_loader.specs.BareRows.{with_bytes}
+use Rattle.llb_loader.specs.RowsWithoutBytes.{with_bytes}
 use Rattle.llb_loader.proofs.FirstRowOfDigest.{IsFirst}
 use Rattle.llb_loader.proofs.row_lookup.index_of.Given as goal
 

@@ -1,7 +1,7 @@
 use Rattle.std.proofs.Common.{◌↔◌, List, ℕ, IsTrue, take, refl, sym, ap, ◌∙◌, subst, true≢false}
 use Rattle.std.proofs.lemmas.List.{take_all}
 use Rattle.std.specs.List.{Contains}
-use Rattle.llb_mount.specs.declared.shown.Shown.{Shown}
+use Rattle.llb_mount.specs.declared.shown_tree.Shown.{Shown}
 use Rattle.llb_mount.specs.View.{dests}
 use Rattle.llb_mount.proofs.DistinctDests.{Differ, one_more, twice}
 use Rattle.llb_mount.proofs.view.all_differ.Goals as goal

@@ -1,7 +1,7 @@
 use Rattle.std.proofs.Common.{◌++◌, subst, sym}
 use Rattle.std.specs.Prelude.{Ok}
-use Rattle.llb_session.specs.Answers.{Answers, Responds, end_line}
-use Rattle.llb_session.specs.Texts.{fault_line}
+use Rattle.llb_session.specs.LineReplies.{Answers, Responds, end_line}
+use Rattle.llb_session.specs.PrintedTexts.{fault_line}
 use Rattle.llb_session.proofs.ChosenEventRefusals.{grants_answer, refusal_answers, replied, says}
 use Rattle.llb_session.proofs.answering.answer.Goals as goal
 

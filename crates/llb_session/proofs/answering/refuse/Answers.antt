@@ -1,5 +1,5 @@
-use Rattle.llb_session.specs.Answers.{end_line}
-use Rattle.llb_session.specs.Texts.{fault_line}
+use Rattle.llb_session.specs.LineReplies.{end_line}
+use Rattle.llb_session.specs.PrintedTexts.{fault_line}
 use Rattle.llb_session.proofs.ConsecutiveTexts.{cut_before, ends_after}
 use Rattle.llb_session.proofs.answering.refuse.Goals as goal
 

@@ -1,4 +1,4 @@
-use Rattle.llb_session.specs.Answers.{end_line}
+use Rattle.llb_session.specs.LineReplies.{end_line}
 use Rattle.llb_session.proofs.ConsecutiveTexts.{cut_before, ends_after}
 use Rattle.llb_session.proofs.answering.reply.Goals as goal
 

@@ -1,7 +1,7 @@
 -- The reply is written, and the flush after it fails.
 use Rattle.std.proofs.Common.{◌+◌, Bool, List, ℕ, Ok, [], sym, subst, append-nil}
 use Rattle.std.proofs.KnownBytes.{Appends-kept}
-use Rattle.llb_session.specs.Answers.{Replies, Says}
+use Rattle.llb_session.specs.LineReplies.{Replies, Says}
 use Rattle.llb_session.proofs.Streams.{between}
 use Rattle.llb_session.proofs.conversation.say.Goals as goal
 

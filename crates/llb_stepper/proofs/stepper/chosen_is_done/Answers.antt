@@ -1,6 +1,6 @@
 use Rattle.std.proofs.Common.{ap}
 use Rattle.llb_stepper.specs.Stepping.{Stepping}
-use Rattle.llb_stepper.proofs.WalkByTable.{chosen_done}
+use Rattle.llb_stepper.proofs.UndoableEventsByTable.{chosen_done}
 use Rattle.llb_stepper.proofs.stepper.chosen_is_done.Goals as goal
 
 pub returns : goal.returns

@@ -2,7 +2,7 @@
 use Rattle.std.proofs.Common.{◌≡◌, length}
 use Rattle.std.specs.FinMap as finite
 use Rattle.llb_tree.specs.Tree.{TreeMap}
-use Rattle.llb_treetext.specs.RowPlacement.{IsFront, IsLast}
+use Rattle.llb_treetext.specs.TreeAfterNextLine.{IsFront, IsLast}
 use Rattle.llb_treetext.specs.GrowingTree.{IsGrownIfAny}
 use Rattle.llb_treetext.proofs.read.read_tree.Given as goal
 

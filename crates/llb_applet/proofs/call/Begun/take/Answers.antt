@@ -1,6 +1,6 @@
 use Rattle.std.proofs.Common.{◌++◌, ◌∷◌, [], sym, ap, ◌∙◌, refl}
 use Rattle.std.proofs.lemmas.Result.{err_from_is_err_and}
-use Rattle.llb_applet.specs.declared.join.Join.TheVariants.{Then}
+use Rattle.llb_applet.specs.declared.joined_commands.Join.TheVariants.{Then}
 use Rattle.llb_applet.specs.Words.{join_of, calls_from}
 use Rattle.llb_applet.specs.CallReading.{verdict}
 use Rattle.llb_applet.specs.Scripts.{commands_of}

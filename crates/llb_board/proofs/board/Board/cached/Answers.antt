@@ -1,6 +1,6 @@
 use Rattle.std.proofs.Common.{List, ap, ◌∙◌}
 use Rattle.llb_cache.specs.Caches.{Row}
-use Rattle.llb_model.specs.CacheBridge.{store_of}
+use Rattle.llb_model.specs.TwoCacheModels.{store_of}
 use Rattle.llb_board.specs.WorkedOnAndCachedTrees.{cached_at, cached_by}
 use Rattle.llb_board.specs.BoardValue.{BoardValue}
 use Rattle.llb_board.proofs.board.Board.cached.Goals as goal

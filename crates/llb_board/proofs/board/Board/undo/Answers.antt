@@ -1,10 +1,10 @@
 use Rattle.std.proofs.Common.{◌≡◌, ◌∙◌, Some, None, sym, ap, subst}
 use Rattle.std.specs.Prelude.{slice_set, option_map}
 use Rattle.llb_loader.specs.Graph.{IsGraph}
-use Rattle.llb_board.specs.DisplacedWorkers.{change_in, change_of}
+use Rattle.llb_board.specs.WorkersKeptForUndo.{change_in, change_of}
 use Rattle.llb_board.specs.Vertices.{status_of}
 use Rattle.llb_board.specs.BoardValue.{BoardValue, seen}
-use Rattle.llb_board.specs.WalkAndUndo.{CanUndo}
+use Rattle.llb_board.specs.UndoableEvents.{CanUndo}
 use Rattle.llb_board.proofs.UndoCorrectness.{can_put_back, changed, unchanged, change_whole, change_low, ends_with, space_changed, space_unchanged}
 use Rattle.llb_board.proofs.UndoCorrectness.{Leaves, undo_keeps}
 use Rattle.llb_board.proofs.board.Board.undo.Goals as goal

@@ -1,9 +1,9 @@
 use Rattle.std.proofs.Common.{◌≡◌, ◌∙◌, false, sym, ap, subst, rules}
 use Rattle.std.specs.Prelude.{Err}
 use Rattle.llb_loader.specs.Graph.{IsGraph}
-use Rattle.llb_board.specs.DisplacedWorkers.{walk_memory}
+use Rattle.llb_board.specs.WorkersKeptForUndo.{walk_memory}
 use Rattle.llb_board.specs.BoardValue.{BoardValue}
-use Rattle.llb_board.specs.WalkAndUndo.{walk_of}
+use Rattle.llb_board.specs.UndoableEvents.{walk_of}
 use Rattle.llb_board.proofs.UndoOfGrantedEvents.{walk_back, walk_can, walk_refused}
 use Rattle.llb_board.proofs.board.Board.walk.Goals as goal
 

@@ -1,6 +1,6 @@
 use Rattle.std.proofs.Common.{◌≡◌, ◌<◌, map, length, sym, ◌∙◌, ap}
 use Rattle.std.specs.Prelude.{◌&&◌, slice_get}
-use Rattle.llb_board.specs.Links.{has_inputs}
+use Rattle.llb_board.specs.UsersAndOpenInputs.{has_inputs}
 use Rattle.llb_model.specs.State.{is_ready, is_waiting}
 use Rattle.llb_model.specs.Run.{least}
 use Rattle.llb_board.specs.Vertices.{VerticesValue, status_of}

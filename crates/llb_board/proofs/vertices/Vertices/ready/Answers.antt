@@ -1,6 +1,6 @@
 use Rattle.std.proofs.Common.{◌≡◌, ◌∙◌, map, refl, sym, ap}
 use Rattle.std.specs.Prelude.{true, false, ◌&&◌, Option, Some, None, Err, is_ok, is_some, slice_get}
-use Rattle.llb_board.specs.Links.{has_inputs}
+use Rattle.llb_board.specs.UsersAndOpenInputs.{has_inputs}
 use Rattle.llb_model.specs.Program.{Start}
 use Rattle.llb_model.specs.State.{Idle, is_waiting, start_from}
 use Rattle.llb_model.specs.Table.{claim_start}
@@ -8,7 +8,7 @@ use Rattle.llb_model.specs.Table as table
 use Rattle.llb_model.proofs.VertexKinds.{kind_at}
 use Rattle.llb_board.specs.Vertices.{VerticesValue, status_of}
 use Rattle.llb_events.specs.declared.refusal.ClaimFault.TheVariants.{NotReady}
-use Rattle.llb_board.proofs.LinksOverStatuses.{ready_so}
+use Rattle.llb_board.proofs.UsersOverStatuses.{ready_so}
 use Rattle.llb_board.proofs.DerivedVertexData.{tells_in}
 use Rattle.llb_board.proofs.vertices.Vertices.ready.Goals as goal
 use Rattle.llb_board.proofs.vertices.Vertices.ready.Goals.{After-is_ready}

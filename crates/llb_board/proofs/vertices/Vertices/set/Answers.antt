@@ -6,10 +6,10 @@ use Rattle.std.proofs.lemmas.Option.{slice_get-get_or}
 use Rattle.llb_model.specs.Program.{Build}
 use Rattle.llb_model.specs.State.{Status, ending_of, is_done, stopped}
 use Rattle.llb_model.proofs.StoppedVertices.{stopped_length}
-use Rattle.llb_board.specs.Links.{Linked, IsLinked, users_at}
+use Rattle.llb_board.specs.UsersAndOpenInputs.{Linked, IsLinked, users_at}
 use Rattle.llb_board.specs.Vertices.{VerticesValue, AreCounted, AreOver, IsWhole, TellsInputs, status_of, done_in, with_status}
-use Rattle.llb_board.specs.declared.vertices.stage.Stage.{Stage}
-use Rattle.llb_board.proofs.LinksOverStatuses.{low_user, users_counted, counts_fit}
+use Rattle.llb_board.specs.declared.vertices.vertex_state.Stage.{Stage}
+use Rattle.llb_board.proofs.UsersOverStatuses.{low_user, users_counted, counts_fit}
 use Rattle.llb_board.proofs.DerivedVertexData.{before_is, whole_after, over_after, linked_after, in_step_after, low_vertex, tells_in}
 use Rattle.llb_board.proofs.Lists.{map_set}
 use Rattle.llb_model.proofs.Lists.{length_map}

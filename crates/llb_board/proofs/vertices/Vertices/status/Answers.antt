@@ -1,7 +1,7 @@
 use Rattle.std.proofs.Common.{◌≡◌, ◌<◌, ◌∙◌, Bool, map, length, refl, sym, ap, arith}
 use Rattle.std.specs.Prelude.{Some, ◌&&◌, false, unwrap_or, option_map, slice_get}
 use Rattle.std.proofs.lemmas.Option.{slice_get_within, slice_get-get_or}
-use Rattle.llb_board.specs.Links.{has_inputs}
+use Rattle.llb_board.specs.UsersAndOpenInputs.{has_inputs}
 use Rattle.llb_model.specs.Outcome.{Done, Failed}
 use Rattle.llb_model.specs.State.{Status, Waiting, Running, Settled, is_ready, is_waiting, is_blocked}
 use Rattle.llb_board.specs.Statuses.{look, look_in}

@@ -1,7 +1,7 @@
 use Rattle.std.proofs.Common.{◌∙◌, map, ap}
-use Rattle.llb_board.specs.Links.{users_of}
+use Rattle.llb_board.specs.UsersAndOpenInputs.{users_of}
 use Rattle.llb_board.specs.Vertices.{VerticesValue, done_in, status_of}
-use Rattle.llb_board.proofs.LinksOverStatuses.{users_told}
+use Rattle.llb_board.proofs.UsersOverStatuses.{users_told}
 use Rattle.llb_board.proofs.vertices.Vertices.users.Goals as goal
 
 pub returns : goal.returns

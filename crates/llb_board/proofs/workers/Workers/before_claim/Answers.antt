@@ -1,5 +1,5 @@
 use Rattle.std.proofs.Common.{subst}
-use Rattle.llb_board.specs.DisplacedWorkers.{Unclaim, MarksClaim}
+use Rattle.llb_board.specs.WorkersKeptForUndo.{Unclaim, MarksClaim}
 use Rattle.llb_board.specs.Workers.{WorkersValue}
 use Rattle.llb_board.proofs.WorkersBeforeEvents.{marks_claim}
 use Rattle.llb_board.proofs.workers.Workers.before_claim.Goals as goal

@@ -1,10 +1,10 @@
 use Rattle.std.proofs.Common.{◌≡◌, ◌+◌, ◌∙◌, Some, length, sym, subst, rules, vec_len}
 use Rattle.std.specs.Prelude.{slice_get}
 use Rattle.llb_board.specs.OptionalLeases.{lent_of}
-use Rattle.llb_board.specs.DisplacedWorkers.{Resume, MarksEnd}
+use Rattle.llb_board.specs.WorkersKeptForUndo.{Resume, MarksEnd}
 use Rattle.llb_board.specs.WorkerUndo.{left_in}
 use Rattle.llb_board.specs.Workers.{WorkersValue, Fits}
-use Rattle.llb_board.specs.declared.workers.seat.Seat.TheVariants as seat
+use Rattle.llb_board.specs.declared.workers.running_workers.Seat.TheVariants as seat
 use Rattle.llb_board.proofs.WorkersBeforeEvents.{marks_end}
 use Rattle.llb_board.proofs.workers.Workers.before_end.Goals as goal
 

@@ -1,10 +1,10 @@
 use Rattle.std.proofs.Common.{◌≡◌, ◌∙◌, Some, List, sym, ap, subst, rules}
 use Rattle.std.specs.Prelude.{slice_get}
 use Rattle.llb_model.specs.Caches.{Instance, trees_at}
-use Rattle.llb_model.specs.CacheBridge.{store_of}
-use Rattle.llb_board.specs.DisplacedWorkers.{Unstep, MarksStep}
+use Rattle.llb_model.specs.TwoCacheModels.{store_of}
+use Rattle.llb_board.specs.WorkersKeptForUndo.{Unstep, MarksStep}
 use Rattle.llb_board.specs.Workers.{WorkersValue, Fits}
-use Rattle.llb_board.specs.declared.workers.seat.Seat.TheVariants as seat
+use Rattle.llb_board.specs.declared.workers.running_workers.Seat.TheVariants as seat
 use Rattle.llb_board.proofs.WorkersBeforeEvents.{marks_step}
 use Rattle.llb_board.proofs.workers.Workers.before_step.Goals as goal
 

@@ -5,13 +5,13 @@ use Rattle.llb_cache.specs.Caches.{CachesValue}
 use Rattle.llb_model.specs.Table.{Claimed}
 use Rattle.llb_model.specs.State.{WorkerStatus, Idle}
 use Rattle.llb_model.specs.Table.{claim_start, claimed}
-use Rattle.llb_model.proofs.BridgeLeases.{leased_holds_as}
+use Rattle.llb_model.proofs.TwoModelsLeases.{leased_holds_as}
 use Rattle.llb_events.specs.Faults.{GivesClaim, claim_memory, claim_may_want}
 use Rattle.llb_board.specs.WorkerModelValues.{at_of, leased_by}
 use Rattle.llb_board.specs.Workers.{WorkersValue, IsBegunOn, state_in, claim_in, reply_of}
-use Rattle.llb_board.specs.Needs.{IsFound}
-use Rattle.llb_board.specs.declared.workers.needs.Wanted.{Wanted}
-use Rattle.llb_board.specs.declared.workers.seat.Seat.{Seat}
+use Rattle.llb_board.specs.CacheNeeds.{IsFound}
+use Rattle.llb_board.specs.declared.workers.cache_needs.Wanted.{Wanted}
+use Rattle.llb_board.specs.declared.workers.running_workers.Seat.{Seat}
 use Rattle.llb_board.proofs.GrantsAndRefusals.{CanClaim, Leased, can_claim}
 use Rattle.llb_board.proofs.ClaimHalves.{refused_start, refused_held, wants_as, begin_gives, begin_last, begin_on, begin_at_them}
 use Rattle.llb_board.proofs.NeedsByMount.{graph_edges}

@@ -1,6 +1,6 @@
 use Rattle.std.proofs.Common.{map, subst}
-use Rattle.llb_model.specs.CacheBridge.{HoldsAs}
-use Rattle.llb_model.proofs.BridgeLeases.{leased_holds_as}
+use Rattle.llb_model.specs.TwoCacheModels.{HoldsAs}
+use Rattle.llb_model.proofs.TwoModelsLeases.{leased_holds_as}
 use Rattle.llb_board.specs.WorkerModelValues.{at_of, leased_by}
 use Rattle.llb_board.specs.Workers.{WorkersValue}
 use Rattle.llb_board.proofs.workers.Workers.caches.Goals as goal

@@ -1,8 +1,8 @@
 use Rattle.std.proofs.Common.{map, ap, ◌∙◌}
 use Rattle.llb_cache.specs.Caches.{CachesValue}
-use Rattle.llb_board.specs.Supplies.{ready_made}
+use Rattle.llb_board.specs.RunningWorkerSupplies.{ready_made}
 use Rattle.llb_board.specs.WorkerModelValues.{at_of, leased_by}
-use Rattle.llb_board.proofs.SeatsAndLeases.{crew_alike}
+use Rattle.llb_board.proofs.RunningWorkersAndLeases.{crew_alike}
 use Rattle.llb_board.proofs.workers.Workers.copy.Goals as goal
 
 pub invariant_of-result : goal.invariant_of-result

@@ -3,13 +3,13 @@ use Rattle.std.specs.Prelude.{Some, slice_get, slice_set}
 use Rattle.std.proofs.lemmas.Option.{slice_get-get_or}
 use Rattle.llb_cache.specs.Caches.{CachesValue}
 use Rattle.llb_model.specs.State.{Idle}
-use Rattle.llb_board.specs.Supplies.{ready_made, needed}
+use Rattle.llb_board.specs.RunningWorkerSupplies.{ready_made, needed}
 use Rattle.llb_board.specs.WorkerRules.{given_up_at}
 use Rattle.llb_board.specs.WorkerModelValues.{IsRunning, at_of}
 use Rattle.llb_board.specs.Workers.{WorkersValue, Fits}
-use Rattle.llb_board.specs.declared.workers.seat.Seat.{Seat}
-use Rattle.llb_board.specs.declared.workers.seat.Seat.TheVariants as seat
-use Rattle.llb_board.proofs.SeatsAndLeases.{Crew, crew_idle, crew_out}
+use Rattle.llb_board.specs.declared.workers.running_workers.Seat.{Seat}
+use Rattle.llb_board.specs.declared.workers.running_workers.Seat.TheVariants as seat
+use Rattle.llb_board.proofs.RunningWorkersAndLeases.{Crew, crew_idle, crew_out}
 use Rattle.llb_board.proofs.SuppliesAtStartAndEnd.{supplies_settled}
 use Rattle.llb_board.proofs.Lists.{get_map, map_set}
 use Rattle.llb_board.proofs.workers.Workers.give_up.Goals as goal

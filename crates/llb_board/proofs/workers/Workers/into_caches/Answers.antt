@@ -1,9 +1,9 @@
 use Rattle.std.proofs.Common.{List, map, sym, ap, subst, ◌∙◌}
 use Rattle.llb_cache.proofs.InstanceHolders.{none_out}
-use Rattle.llb_model.specs.CacheBridge.{AreLeased}
+use Rattle.llb_model.specs.TwoCacheModels.{AreLeased}
 use Rattle.llb_board.specs.WorkerModelValues.{at_of, leased_by}
 use Rattle.llb_board.specs.Workers.{WorkersValue}
-use Rattle.llb_board.specs.declared.workers.seat.Seat.{Seat}
+use Rattle.llb_board.specs.declared.workers.running_workers.Seat.{Seat}
 use Rattle.llb_board.proofs.workers.Workers.into_caches.Goals as goal
 
 pub give_all_back-requires : goal.give_all_back-requires

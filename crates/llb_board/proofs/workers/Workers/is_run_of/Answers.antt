@@ -4,8 +4,8 @@ use Rattle.std.specs.Bool.{OnTrue, OnFalse}
 use Rattle.llb_model.specs.State.{Runs}
 use Rattle.llb_board.specs.WorkerModelValues.{at_of, leased_by, execution_of}
 use Rattle.llb_board.specs.Workers.{WorkersValue, Fits, RunsJob}
-use Rattle.llb_board.specs.declared.workers.seat.Seat.{Seat}
-use Rattle.llb_board.specs.declared.workers.seat.Seat.TheVariants as seat
+use Rattle.llb_board.specs.declared.workers.running_workers.Seat.{Seat}
+use Rattle.llb_board.specs.declared.workers.running_workers.Seat.TheVariants as seat
 use Rattle.llb_board.proofs.SuppliesAtStartAndEnd.{made_enough}
 use Rattle.llb_board.proofs.LandedWorkers.{run_yes, run_no}
 use Rattle.llb_board.proofs.MicroStepsOnLeases.{held_within}

@@ -1,11 +1,11 @@
 use Rattle.std.proofs.Common.{◌≡◌, ◌∙◌, sym, subst}
 use Rattle.std.specs.Prelude.{slice_get, slice_set}
 use Rattle.llb_execution.specs.ModelValues.{left_with}
-use Rattle.llb_model.specs.CacheBridge.{put_each}
+use Rattle.llb_model.specs.TwoCacheModels.{put_each}
 use Rattle.llb_execution.specs.Jobs.{OutcomeValue, IsOutcome}
 use Rattle.llb_model.specs.State.{places_at}
 use Rattle.llb_board.specs.Workers.{Fits, steps_left}
-use Rattle.llb_board.proofs.SeatsAndLeases.{Crew}
+use Rattle.llb_board.proofs.RunningWorkersAndLeases.{Crew}
 use Rattle.llb_board.proofs.LandedWorkers.{has_seat, low_seat, few_steps, leased_count, few_trees, land_crew, land_workers, land_rows, land_fits}
 use Rattle.llb_board.proofs.workers.Workers.land.Goals as goal
 use Rattle.llb_board.proofs.workers.Workers.land.Goals.{After-into_left-count}

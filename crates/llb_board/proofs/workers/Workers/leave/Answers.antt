@@ -5,14 +5,14 @@ use Rattle.llb_cache.specs.Caches.{CachesValue}
 use Rattle.llb_tree.specs.Tree.{empty_tree}
 use Rattle.llb_model.specs.Program.{program_at}
 use Rattle.llb_model.specs.State.{Idle, program_in, is_finished}
-use Rattle.llb_board.specs.Supplies.{ready_made, needed}
+use Rattle.llb_board.specs.RunningWorkerSupplies.{ready_made, needed}
 use Rattle.llb_board.specs.WorkerRules.{left_at}
 use Rattle.llb_board.specs.Vertices.{status_of, IsWhole}
 use Rattle.llb_board.specs.WorkerModelValues.{IsRunning, at_of, execution_of}
 use Rattle.llb_board.specs.Workers.{WorkersValue, Fits}
-use Rattle.llb_board.specs.declared.workers.seat.Seat.{Seat}
-use Rattle.llb_board.specs.declared.workers.seat.Seat.TheVariants as seat
-use Rattle.llb_board.proofs.SeatsAndLeases.{Crew, crew_idle, crew_out, whole_end}
+use Rattle.llb_board.specs.declared.workers.running_workers.Seat.{Seat}
+use Rattle.llb_board.specs.declared.workers.running_workers.Seat.TheVariants as seat
+use Rattle.llb_board.proofs.RunningWorkersAndLeases.{Crew, crew_idle, crew_out, whole_end}
 use Rattle.llb_board.proofs.SuppliesAtStartAndEnd.{all_empty, leaves, supplies_settled}
 use Rattle.llb_board.proofs.Lists.{map_set}
 use Rattle.llb_board.proofs.workers.Workers.leave.Goals as goal

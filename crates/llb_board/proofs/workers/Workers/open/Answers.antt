@@ -1,8 +1,8 @@
 use Rattle.std.proofs.Common.{map, ap, ◌∙◌}
-use Rattle.llb_board.specs.Supplies.{ready_made}
+use Rattle.llb_board.specs.RunningWorkerSupplies.{ready_made}
 use Rattle.llb_board.specs.WorkerModelValues.{at_of}
-use Rattle.llb_board.specs.declared.workers.seat.Seat.TheVariants as seat
-use Rattle.llb_board.proofs.SeatsAndLeases.{crew_open}
+use Rattle.llb_board.specs.declared.workers.running_workers.Seat.TheVariants as seat
+use Rattle.llb_board.proofs.RunningWorkersAndLeases.{crew_open}
 use Rattle.llb_model.proofs.Lists.{map_replicate}
 use Rattle.llb_board.proofs.workers.Workers.open.Goals as goal
 

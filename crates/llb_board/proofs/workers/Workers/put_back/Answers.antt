@@ -1,6 +1,6 @@
 use Rattle.std.proofs.Common.{◌∙◌, map, sym, ap, subst}
-use Rattle.llb_board.specs.Supplies.{ready_made}
-use Rattle.llb_board.specs.DisplacedWorkers.{Back, CanPutBack, workers_before, supplies_before, rows_before, change_in}
+use Rattle.llb_board.specs.RunningWorkerSupplies.{ready_made}
+use Rattle.llb_board.specs.WorkersKeptForUndo.{Back, CanPutBack, workers_before, supplies_before, rows_before, change_in}
 use Rattle.llb_board.specs.WorkerModelValues.{at_of}
 use Rattle.llb_board.specs.Workers.{WorkersValue}
 use Rattle.llb_board.proofs.TableStepOfWorker.{seen_of}

@@ -1,14 +1,14 @@
 use Rattle.std.proofs.Common.{◌≡◌, ◌≢◌, ◌∙◌, ℕ, sym, ap, subst}
 use Rattle.std.specs.Prelude.{Ok, AllPairs, slice_set}
-use Rattle.llb_cache.specs.declared.need.Need as cache_need
+use Rattle.llb_cache.specs.declared.lease_needs.Need as cache_need
 use Rattle.llb_model.specs.Table.{Claimed}
 use Rattle.llb_model.specs.State.{Running}
 use Rattle.llb_model.specs.Table.{Job, claim_grant}
 use Rattle.llb_board.specs.OptionalLeases.{lease_if}
-use Rattle.llb_model.specs.CacheBridge.{rows_after}
+use Rattle.llb_model.specs.TwoCacheModels.{rows_after}
 use Rattle.llb_board.specs.Vertices.{with_status}
 use Rattle.llb_board.specs.Workers.{WorkersValue, IsBegunAt, Fits, state_in}
-use Rattle.llb_board.specs.declared.workers.seat.Seat.TheVariants as seat
+use Rattle.llb_board.specs.declared.workers.running_workers.Seat.TheVariants as seat
 use Rattle.llb_board.proofs.ClaimHalves.{differ, few, start_grants, start_rows, start_crew, start_fits}
 use Rattle.llb_board.proofs.TableStepOfWorker.{seen_of}
 use Rattle.llb_board.proofs.workers.Workers.start.Goals as goal

@@ -1,15 +1,15 @@
 use Rattle.std.proofs.Common.{◌≡◌, ◌∙◌, ◌<◌, Option, length, ap, sym, subst, rules}
 use Rattle.std.specs.Prelude.{Some, OnOk, slice_get, slice_set}
 use Rattle.std.proofs.lemmas.Option.{slice_get-get_or}
-use Rattle.llb_wire.specs.Answer.{MemoryLast}
+use Rattle.llb_wire.specs.CallResults.{MemoryLast}
 use Rattle.llb_model.specs.Table.{HasStepped}
 use Rattle.llb_model.specs.State.{WorkerStatus}
 use Rattle.llb_model.specs.Table.{stepped}
-use Rattle.llb_model.specs.CacheBridge.{rows_after}
+use Rattle.llb_model.specs.TwoCacheModels.{rows_after}
 use Rattle.llb_events.specs.Faults.{step_memory, GivesStep}
 use Rattle.llb_board.specs.WorkerModelValues.{at_of}
 use Rattle.llb_board.specs.Workers.{WorkersValue, Fits, state_in, step_in}
-use Rattle.llb_board.specs.declared.workers.seat.Seat.TheVariants as seat
+use Rattle.llb_board.specs.declared.workers.running_workers.Seat.TheVariants as seat
 use Rattle.llb_board.proofs.SuppliesAtStartAndEnd.{made_enough}
 use Rattle.llb_board.proofs.Lists.{get_map}
 use Rattle.llb_board.proofs.MicroStepsOnLeases.{holding}

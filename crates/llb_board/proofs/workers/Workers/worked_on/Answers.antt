@@ -1,11 +1,11 @@
 use Rattle.std.proofs.Common.{◌≡◌, ◌∙◌, List, Option, map, sym, ap}
 use Rattle.std.specs.Prelude.{Some, slice_get}
-use Rattle.llb_model.specs.CacheBridge.{store_of}
+use Rattle.llb_model.specs.TwoCacheModels.{store_of}
 use Rattle.llb_model.specs.State.{WorkerStatus, Runs, runs}
 use Rattle.llb_board.specs.WorkedOnAndCachedTrees.{worked_by}
 use Rattle.llb_board.specs.WorkerModelValues.{at_of, leased_by, execution_of}
 use Rattle.llb_board.specs.Workers.{WorkersValue}
-use Rattle.llb_board.specs.declared.workers.seat.Seat.{Seat}
+use Rattle.llb_board.specs.declared.workers.running_workers.Seat.{Seat}
 use Rattle.llb_board.proofs.MicroStepsOnLeases.{held_within}
 use Rattle.llb_board.proofs.workers.Workers.worked_on.Goals as goal
 

@@ -1,13 +1,13 @@
 use Rattle.std.proofs.Common.{◌≡◌, List, map, sym, ap, ◌∙◌}
 use Rattle.std.specs.Prelude.{Ok}
 use Rattle.llb_tree.specs.Tree.{TreeMap}
-use Rattle.llb_model.specs.CacheBridge.{asked}
+use Rattle.llb_model.specs.TwoCacheModels.{asked}
 use Rattle.llb_model.specs.Outcome.{inputs_from}
 use Rattle.llb_model.specs.Program.{workspace_on}
 use Rattle.llb_model.specs.State.{ending_at}
 use Rattle.llb_model.specs.Table.{Job, Claimed}
-use Rattle.llb_board.specs.Needs.{first_tree, need_of, number_of, place_found}
-use Rattle.llb_board.specs.VertexOutfits.{outfit_as}
+use Rattle.llb_board.specs.CacheNeeds.{first_tree, need_of, number_of, place_found}
+use Rattle.llb_board.specs.ClaimPreparation.{outfit_as}
 use Rattle.llb_board.proofs.ClaimParts.{Parts, AreParts, put_together, begun_of, supplied, workable}
 use Rattle.llb_board.proofs.workers.claiming.begun_with.Goals as goal
 use Rattle.llb_board.proofs.workers.claiming.begun_with.Goals.{After-new-instances}

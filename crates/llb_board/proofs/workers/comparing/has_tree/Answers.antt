@@ -2,8 +2,8 @@ use Rattle.std.proofs.Common.{◌≡◌, ap, sym, ◌∙◌}
 use Rattle.std.specs.Prelude.{unwrap_or}
 use Rattle.llb_cache.specs.Caches.{trees_of}
 use Rattle.llb_tree.specs.Tree.{empty_tree}
-use Rattle.llb_model.specs.CacheBridge.{store_of}
-use Rattle.llb_model.proofs.BridgeContents.{shows_instances}
+use Rattle.llb_model.specs.TwoCacheModels.{store_of}
+use Rattle.llb_model.proofs.TwoModelsContents.{shows_instances}
 use Rattle.llb_model.proofs.Lists.{get_within}
 use Rattle.llb_model.specs.Caches.{tree_of}
 use Rattle.llb_model.proofs.ConstructorEqualities.{none_some}

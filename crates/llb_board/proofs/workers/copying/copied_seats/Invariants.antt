@@ -1,5 +1,5 @@
 use Rattle.std.proofs.Common.{◌≡◌, map, take}
-use Rattle.llb_board.specs.Supplies.{ready_made}
+use Rattle.llb_board.specs.RunningWorkerSupplies.{ready_made}
 use Rattle.llb_board.specs.WorkerModelValues.{at_of, leased_by}
 use Rattle.llb_board.proofs.workers.copying.copied_seats.Given as goal
 

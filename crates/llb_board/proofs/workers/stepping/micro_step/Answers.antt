@@ -2,7 +2,7 @@ use Rattle.std.proofs.Common.{◌≡◌, ◌∙◌, Option, Some, None, length, 
 use Rattle.std.specs.Prelude.{is_some, false}
 use Rattle.llb_model.specs.Table.{HasStepped}
 use Rattle.llb_model.specs.Caches.{trees_at}
-use Rattle.llb_model.specs.CacheBridge.{store_of}
+use Rattle.llb_model.specs.TwoCacheModels.{store_of}
 use Rattle.llb_execution.specs.ModelValues.{left_with, step_in}
 use Rattle.llb_board.specs.OptionalLeases.{leased_places}
 use Rattle.llb_board.specs.WorkerModelValues.{execution_of}

@@ -1,18 +1,18 @@
 use Rattle.std.proofs.Common.{◌≡◌, ◌∙◌, List, length, map, refl, sym, ap, subst, arith, rules, vec_len}
 use Rattle.std.specs.Prelude.{slice_set}
 use Rattle.std.proofs.lemmas.Option.{slice_get_within}
-use Rattle.llb_cache.specs.declared.growth.Growth.{Growth}
+use Rattle.llb_cache.specs.declared.lease_additions.Growth.{Growth}
 use Rattle.llb_cache.specs.Caches.{AreThere}
 use Rattle.llb_model.specs.State.{Idle, Runs}
 use Rattle.llb_board.specs.OptionalLeases.{taken_back}
-use Rattle.llb_board.specs.Supplies.{ready_made}
-use Rattle.llb_board.specs.DisplacedWorkers.{Unclaim, Unstep, Resume, back_in, workers_before, supplies_before, rows_before}
+use Rattle.llb_board.specs.RunningWorkerSupplies.{ready_made}
+use Rattle.llb_board.specs.WorkersKeptForUndo.{Unclaim, Unstep, Resume, back_in, workers_before, supplies_before, rows_before}
 use Rattle.llb_board.specs.WorkerUndo.{left_in}
 use Rattle.llb_board.specs.WorkerModelValues.{at_of}
-use Rattle.llb_board.specs.declared.workers.seat.Seat.TheVariants as seat
+use Rattle.llb_board.specs.declared.workers.running_workers.Seat.TheVariants as seat
 use Rattle.llb_board.specs.declared.workers.undoing.Back as undo
 use Rattle.llb_model.proofs.Lists.{length_map}
-use Rattle.llb_board.proofs.RestoredDisplacements.{PutsBack, can_by, is_out, still_there, unclaims, as_many, unsteps, lends, resumes}
+use Rattle.llb_board.proofs.RestoredWorkers.{PutsBack, can_by, is_out, still_there, unclaims, as_many, unsteps, lends, resumes}
 use Rattle.llb_board.proofs.workers.undoing.displace.Goals as goal
 use Rattle.llb_board.proofs.workers.undoing.displace.Goals.{After-take_back, After-write_back, After-lend_again-lease}
 

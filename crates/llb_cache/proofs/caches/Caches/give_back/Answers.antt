@@ -1,6 +1,6 @@
 use Rattle.std.proofs.Common.{◌≡◌, List, false, ap, subst, sym, ◌∙◌}
 use Rattle.std.specs.Map.{keys_of}
-use Rattle.llb_cache.specs.declared.need.Instance.{Instance}
+use Rattle.llb_cache.specs.declared.lease_needs.Instance.{Instance}
 use Rattle.llb_cache.specs.Caches.{CachesValue, Leases, places_of}
 use Rattle.llb_cache.specs.InstanceMarks.{IsMarked, Remarks, is_one_of}
 use Rattle.llb_cache.proofs.ExactMarks.{back_marked}

@@ -1,6 +1,6 @@
 use Rattle.std.proofs.Common.{◌≡◌, subst}
 use Rattle.llb_cache.specs.Caches.{CachesValue, granted}
-use Rattle.llb_cache.specs.LeaseGrowth.{growths, taken_back}
+use Rattle.llb_cache.specs.LeaseAdditions.{growths, taken_back}
 use Rattle.llb_cache.proofs.RevertedLeases.{comes_back}
 use Rattle.llb_cache.proofs.caches.Caches.grants_come_back.Goals as goal
 

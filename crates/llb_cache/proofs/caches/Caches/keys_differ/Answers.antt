@@ -2,7 +2,7 @@ use Rattle.std.proofs.Common.{◌≢◌, AllPairs, subst}
 use Rattle.std.proofs.lemmas.Map.Made.{AllPairs-from_IsDistinct}
 use Rattle.std.specs.Map.{keys_of}
 use Rattle.llb_cache.specs.Caches.{CachesValue}
-use Rattle.llb_cache.specs.LawsOfKeys.{key_test}
+use Rattle.llb_cache.specs.KeyEquality.{key_test}
 use Rattle.llb_cache.proofs.caches.Caches.keys_differ.Goals as goal
 
 pub returns : goal.returns

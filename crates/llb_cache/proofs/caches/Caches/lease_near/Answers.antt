@@ -1,8 +1,8 @@
 use Rattle.std.proofs.Common.{List, None, Ok, true, cond, length, ap, find, map, subst, sym, ℕ, ◌<◌, ◌∙◌, ◌≡◌}
 use Rattle.std.specs.Map.{keys_of}
-use Rattle.llb_cache.specs.declared.need.Need.{Need}
-use Rattle.llb_cache.specs.declared.need.Instance.{Instance}
-use Rattle.llb_cache.specs.declared.growing.Ready.{Ready}
+use Rattle.llb_cache.specs.declared.lease_needs.Need.{Need}
+use Rattle.llb_cache.specs.declared.lease_needs.Instance.{Instance}
+use Rattle.llb_cache.specs.declared.taken_instances.Ready.{Ready}
 use Rattle.llb_cache.specs.Caches.{CachesValue, Row, Leases, Taken, is_locked_and_held, leases, free_lease, with_lease, taken, made_all, granted, lease_of}
 use Rattle.llb_cache.specs.Caches.{places_of, place_for}
 use Rattle.llb_cache.specs.LeasePreparation.{shown}

@@ -1,8 +1,8 @@
 use Rattle.std.proofs.Common.{◌≡◌, List, true, sym, ap, subst, ◌∙◌}
 use Rattle.std.specs.Map.{keys_of}
-use Rattle.llb_cache.specs.declared.need.Instance.{Instance}
+use Rattle.llb_cache.specs.declared.lease_needs.Instance.{Instance}
 use Rattle.llb_cache.specs.Caches.{CachesValue, Leases, free_lease, with_lease}
-use Rattle.llb_cache.specs.LeaseGrowth.{CanLend}
+use Rattle.llb_cache.specs.LeaseAdditions.{CanLend}
 use Rattle.llb_cache.specs.InstanceMarks.{IsMarked, Remarks, is_one_of}
 use Rattle.llb_cache.proofs.InvariantAfterUndo.{again_marked}
 use Rattle.llb_cache.proofs.caches.Caches.lend_again.Goals as goal

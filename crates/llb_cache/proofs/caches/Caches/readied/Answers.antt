@@ -2,7 +2,7 @@ use Rattle.std.proofs.Common.{arith, List, sym, subst}
 use Rattle.std.specs.List.{All}
 use Rattle.std.proofs.lemmas.Grind.{common_steps}
 use Rattle.std.proofs.lemmas.List.Elements.{All-push}
-use Rattle.llb_cache.specs.declared.growing.Ready.{Ready}
+use Rattle.llb_cache.specs.declared.taken_instances.Ready.{Ready}
 use Rattle.llb_cache.specs.LeasePreparation.{FitsIn}
 use Rattle.llb_cache.proofs.caches.Caches.readied.Goals as goal
 

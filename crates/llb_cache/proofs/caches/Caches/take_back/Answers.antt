@@ -1,12 +1,12 @@
 use Rattle.std.proofs.Common.{◌≡◌, ℕ, List, false, sym, ap, subst, ◌∙◌}
 use Rattle.std.specs.Map.{keys_of}
-use Rattle.llb_cache.specs.declared.need.Instance.{Instance}
+use Rattle.llb_cache.specs.declared.lease_needs.Instance.{Instance}
 use Rattle.llb_cache.specs.Caches.{CachesValue, Row, Leases, AreThere, places_of, given_back}
-use Rattle.llb_cache.specs.LeaseGrowth.{unmade, taken_back}
+use Rattle.llb_cache.specs.LeaseAdditions.{unmade, taken_back}
 use Rattle.llb_cache.specs.InstanceMarks.{IsMarked, Remarks, is_one_of}
 use Rattle.llb_cache.proofs.InvariantAfterUndo.{unmade_marked}
 use Rattle.llb_cache.proofs.ExactMarks.{back_marked}
-use Rattle.llb_cache.proofs.RemovedGrowth.{fewer_rows}
+use Rattle.llb_cache.proofs.RemovedAdditions.{fewer_rows}
 use Rattle.llb_cache.proofs.caches.Caches.take_back.Goals as goal
 
 pub invariant_of-self : goal.invariant_of-self

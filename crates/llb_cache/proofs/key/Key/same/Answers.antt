@@ -1,5 +1,5 @@
 use Rattle.std.proofs.Common.{◌∙◌, sym}
-use Rattle.llb_cache.specs.LawsOfKeys.{key_test}
+use Rattle.llb_cache.specs.KeyEquality.{key_test}
 use Rattle.llb_cache.proofs.key.Key.same.Goals as goal
 
 pub returns : goal.returns

@@ -1,6 +1,6 @@
 use Rattle.std.proofs.Common.{◌||◌, ap, ◌∙◌}
 use Rattle.std.specs.List.{list_any}
-use Rattle.llb_stepper.specs.WalkReplies.{meets_told}
+use Rattle.llb_stepper.specs.UndoableEventReplies.{meets_told}
 use Rattle.llb_stepper.specs.BreakpointSets.{is_met_by_reply}
 use Rattle.llb_stepper.proofs.BreakpointSets.{meets}
 use Rattle.llb_stepper.proofs.breakpoints.Breakpoints.is_met_by.Goals as goal

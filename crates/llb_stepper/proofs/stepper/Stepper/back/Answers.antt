@@ -1,6 +1,6 @@
 use Rattle.std.proofs.Common.{ap}
 use Rattle.llb_stepper.specs.Stepping.{Stepping}
-use Rattle.llb_stepper.proofs.WalkByTable.{fewer}
+use Rattle.llb_stepper.proofs.UndoableEventsByTable.{fewer}
 use Rattle.llb_stepper.proofs.stepper.Stepper.back.Goals as goal
 
 pub returns-in-Some-clause-fewer : goal.returns-in-Some-clause-fewer

@@ -3,7 +3,7 @@ use Rattle.llb_model.specs.Run.{chosen}
 use Rattle.llb_stepper.specs.StepperResults.{MeetsOn}
 use Rattle.llb_stepper.specs.Stepping.{Stepping}
 use Rattle.llb_stepper.proofs.EventSequences.{nearer, none_chosen, one_chosen, stops_chosen, ends_chosen, done_since, since, chosen_as}
-use Rattle.llb_stepper.proofs.WalkByTable.{memory_alone, chosen_granted}
+use Rattle.llb_stepper.proofs.UndoableEventsByTable.{memory_alone, chosen_granted}
 use Rattle.llb_stepper.proofs.stepper.Stepper.go.Goals as goal
 
 pub loop-event-init : goal.loop-event-init

@@ -2,10 +2,10 @@ use Rattle.std.proofs.Common.{◌≡◌, ◌-◌, ◌≤◌, length, get_or, opt
 use Rattle.std.specs.Prelude.{slice_get}
 use Rattle.llb_events.specs.declared.event.Event.TheVariants as event
 use Rattle.llb_stepper.specs.Stepping.{Stepping}
-use Rattle.llb_stepper.specs.WalkReplies.{told_pair}
+use Rattle.llb_stepper.specs.UndoableEventReplies.{told_pair}
 use Rattle.llb_stepper.proofs.DoneEvents.{not_done_here, positive, told_as}
 use Rattle.std.proofs.lemmas.Option.{slice_get-get_or}
-use Rattle.llb_stepper.proofs.WalkByTable.{depth_of}
+use Rattle.llb_stepper.proofs.UndoableEventsByTable.{depth_of}
 use Rattle.llb_stepper.proofs.stepper.Stepper.recorded.Goals as goal
 
 pub returns-then-after-len : goal.returns-then-after-len

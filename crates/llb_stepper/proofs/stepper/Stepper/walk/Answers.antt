@@ -1,6 +1,6 @@
 use Rattle.std.proofs.Common.{[], ◌∷◌, ◌++◌, reverse, ap, sym, subst, ◌∙◌}
 use Rattle.llb_stepper.specs.StepperInvariant.{AreWalked}
-use Rattle.llb_stepper.proofs.WalkByTable.{walked_more, meets_more}
+use Rattle.llb_stepper.proofs.UndoableEventsByTable.{walked_more, meets_more}
 use Rattle.llb_stepper.proofs.stepper.Stepper.walk.Goals as goal
 
 pub invariant_of-self : goal.invariant_of-self

@@ -1,5 +1,0 @@
-use Rattle.std.proofs.Common.{length}
-use Rattle.llb_applet.proofs.change.+dirs_below.Given as goal
-
-abbrev pub decreases-dirs_below : goal.decreases-dirs_below
-decreases-dirs_below l = length l.names.now

@@ -1,5 +1,0 @@
-use Rattle.std.proofs.Common.{length}
-use Rattle.llb_applet.proofs.change.+make_below.Given as goal
-
-abbrev pub decreases-make_below : goal.decreases-make_below
-decreases-make_below l = length l.names.now

@@ -1,6 +1,0 @@
-use Rattle.std.proofs.Common.{◌≤◌, map, length, vec_capacity}
-use Rattle.llb_board.proofs.LinkConstruction.{Linking}
-use Rattle.llb_board.proofs.links.Links.new.Given as goal
-
-abbrev pub invariant-loop-v : goal.invariant-loop-v
-invariant-loop-v l = Linking l.vertices l.v (map (λ u. u.items) l.users.items) l.counts.items × (length l.vertices ≤ vec_capacity l.counts)

@@ -1,6 +1,0 @@
-use Rattle.std.proofs.Common.{map, take}
-use Rattle.llb_board.specs.Links.{IsEntered}
-use Rattle.llb_board.proofs.links.enter.Given as goal
-
-abbrev pub invariant-loop-edge : goal.invariant-loop-edge
-invariant-loop-edge l = IsEntered (take l.edge-index l.edges) l.v (map (λ u. u.items) l.fn.users.items) (map (λ u. u.items) l.users.items) l.more

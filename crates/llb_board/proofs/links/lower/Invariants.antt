@@ -1,6 +1,0 @@
-use Rattle.std.proofs.Common.{take}
-use Rattle.llb_board.specs.Links.{AreLowered}
-use Rattle.llb_board.proofs.links.lower.Given as goal
-
-abbrev pub invariant-loop-user : goal.invariant-loop-user
-invariant-loop-user l = AreLowered (take l.user-index l.users) l.fn.counts l.counts

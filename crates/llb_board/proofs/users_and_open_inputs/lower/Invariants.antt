@@ -1,0 +1,6 @@
+use Rattle.std.proofs.Common.{take}
+use Rattle.llb_board.specs.UsersAndOpenInputs.{AreLowered}
+use Rattle.llb_board.proofs.users_and_open_inputs.lower.Given as goal
+
+abbrev pub invariant-loop-user : goal.invariant-loop-user
+invariant-loop-user l = AreLowered (take l.user-index l.users) l.fn.counts l.counts

@@ -1,4 +1,0 @@
-use Rattle.llb_examples.proofs.workers.«+longest_run».Given as goal
-
-abbrev pub decreases-longest_run : goal.decreases-longest_run
-decreases-longest_run l = l.most

@@ -1,5 +1,0 @@
-use Rattle.llb_execution.proofs.RemainingMicroSteps.{AreDone}
-use Rattle.llb_execution.proofs.further.do_further.Given as goal
-
-abbrev pub invariant-loop-k : goal.invariant-loop-k
-invariant-loop-k l = AreDone l.steps l.done l.initial.workspace l.initial.trees.items l.k l.workspace l.trees.items

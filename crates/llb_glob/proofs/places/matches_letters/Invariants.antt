@@ -1,6 +1,0 @@
-use Rattle.std.proofs.Common.{drop}
-use Rattle.llb_glob.specs.PositionSets.{AreStarts}
-use Rattle.llb_glob.proofs.places.matches_letters.Given as goal
-
-abbrev pub invariant-loop-k : goal.invariant-loop-k
-invariant-loop-k l = AreStarts (drop l.k l.items) l.name l.places

@@ -1,5 +1,0 @@
-use Rattle.llb_glob.proofs.PositionSetMoves.{IsNarrowed}
-use Rattle.llb_glob.proofs.places.narrow.Given as goal
-
-abbrev pub invariant-loop-i : goal.invariant-loop-i
-invariant-loop-i l = IsNarrowed l.letter l.name l.initial.places l.places l.i

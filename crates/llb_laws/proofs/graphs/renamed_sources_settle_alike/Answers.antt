@@ -1,7 +1,0 @@
-use Rattle.llb_laws.proofs.SettledVertexOutcomes.{renamed_settle_alike}
-use Rattle.llb_laws.proofs.graphs.renamed_sources_settle_alike.Goals as goal
-
-pub returns : goal.returns
-returns c =
-    renamed_settle_alike c.args.board.now c.args.renamed.now c.is_graph.ensures c.is_graph-2.ensures c.settled_are_plain.ensures
-    c.settled_are_plain-2.ensures

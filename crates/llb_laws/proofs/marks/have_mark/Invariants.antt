@@ -1,7 +1,0 @@
-use Rattle.std.proofs.Common.{◌≡◌, false, take}
-use Rattle.std.specs.List.{list_any}
-use Rattle.llb_laws.specs.ContentLaws.{has_mark}
-use Rattle.llb_laws.proofs.marks.have_mark.Given as goal
-
-abbrev pub invariant-loop-text : goal.invariant-loop-text
-invariant-loop-text l = list_any has_mark (take l.text-index l.texts) ≡ false

@@ -1,0 +1,6 @@
+use Rattle.llb_laws.proofs.Digests.{share_outcomes}
+use Rattle.llb_laws.proofs.two_graphs.one_digest_one_outcome.Goals as goal
+
+pub returns : goal.returns
+returns c =
+    share_outcomes c.args.first.now c.args.second.now c.args.graph.now c.args.other.now c.is_graph.ensures c.is_graph-2.ensures

@@ -1,5 +1,0 @@
-use Rattle.llb_loader.specs.ReachedRowChecks.{NamesAll}
-use Rattle.llb_loader.proofs.checks.first_unknown.Given as goal
-
-abbrev pub invariant-loop-i : goal.invariant-loop-i
-invariant-loop-i l = NamesAll l.rows l.terminal l.op l.i

@@ -1,6 +1,0 @@
-use Rattle.std.proofs.Common.{◌≡◌, take}
-use Rattle.llb_loader.specs.BareRows.{bytes_of}
-use Rattle.llb_loader.proofs.linking.bytes_of.Given as goal
-
-abbrev pub invariant-loop-row : goal.invariant-loop-row
-invariant-loop-row l = l.entries.items ≡ bytes_of (take l.row-index l.rows)

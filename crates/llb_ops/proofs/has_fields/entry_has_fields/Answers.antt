@@ -1,5 +1,0 @@
-use Rattle.llb_ops.proofs.OpFields.{entry_has}
-use Rattle.llb_ops.proofs.has_fields.entry_has_fields.Goals as goal
-
-pub returns : goal.returns
-returns c = entry_has c.args.bytes.now

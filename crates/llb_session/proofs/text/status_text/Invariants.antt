@@ -1,7 +1,0 @@
--- The lines of the vertices so far.
-use Rattle.std.proofs.Common.{◌≡◌, string_bytes}
-use Rattle.llb_session.specs.Texts.{status_lines}
-use Rattle.llb_session.proofs.text.status_text.Given as goal
-
-abbrev pub invariant-loop-v : goal.invariant-loop-v
-invariant-loop-v l = string_bytes l.text ≡ status_lines l.board l.v

@@ -1,5 +1,0 @@
-use Rattle.llb_work.specs.WorkerPasses.{IsUncut}
-use Rattle.llb_work.proofs.supply.put_ready.Given as goal
-
-abbrev pub invariant-loop-v : goal.invariant-loop-v
-invariant-loop-v g l = IsUncut l.queue l.pass
