@@ -47,7 +47,7 @@ STATEMENTS = {
     "asm": ("llb_commands", "assembling.rt", "asm_over"),
     "dis": ("llb_commands", "disassembling.rt", "dis_over"),
     "step": ("llb_commands", "stepping.rt", "step_over"),
-    "program": ("llb_commands", "performing.rt", "program"),
+    "program": ("llb_commands", "command_dispatch.rt", "program"),
 }
 
 

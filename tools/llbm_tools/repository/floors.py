@@ -11,7 +11,7 @@ What is checked:
 - A head names no crate that crates.txt lacks; and where it says that the crate knows no tree, graph, operation, worker
   or the like, the crate does not use the crate of these.
 - The head of a crate's specs/Lib.antt, which is the order in which to read its files, names each of them.
-- The proofs of a crate cite proofs of another crate only if that one lends them (LENDERS), or for `Crossing.antt`,
+- The proofs of a crate cite proofs of another crate only if that one lends them (LENDERS), or for `ThreadTransfers.antt`,
   which shows that a type may go to another thread.
 
 Out: on standard output `PATH: what is wrong`, a line each.
@@ -134,7 +134,7 @@ def wrong_proofs(repository: pathlib.Path, crate: str) -> Iterator[tuple[pathlib
         for other in sorted(set(CITED.findall(text))):
             borrowers = LENDERS.get(other, set())
             lends = borrowers is None or crate in borrowers
-            if other.startswith("llb") and other != crate and not lends and path.name != "Crossing.antt":
+            if other.startswith("llb") and other != crate and not lends and path.name != "ThreadTransfers.antt":
                 yield path, f"cites proofs of {other}, which lends none to {crate}"
 
 

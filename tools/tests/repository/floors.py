@@ -118,7 +118,7 @@ class Proofs(Repository):
         self.check(f"{proof}: cites proofs of llb_loader, which lends none to llb_plain")
 
     def test_types_may_cross_threads(self):
-        self.cite("llb_plain", "Crossing.antt", "llb_loader")
+        self.cite("llb_plain", "ThreadTransfers.antt", "llb_loader")
         self.check()
 
 

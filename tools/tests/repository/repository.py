@@ -188,7 +188,7 @@ class Kit(unittest.TestCase):
 
     def test_the_logic_is_the_same_everywhere(self):
         places = [
-            CRATES / "llb_commands" / "src" / "pages.rt", TOOLS / "llbm_tools" / "common.py", ROOT / "README.md",
+            CRATES / "llb_commands" / "src" / "help_pages.rt", TOOLS / "llbm_tools" / "common.py", ROOT / "README.md",
             ROOT / "tests" / "command-line" / "version.md",
         ]  # fmt: skip
         named = [LOGIC.findall(place.read_text("utf-8")) for place in places]
@@ -280,7 +280,7 @@ class Claims(unittest.TestCase):
     def test_the_wrong_bodies_are_listed_with_their_functions(self):
         done = run("claims", "--bodies")
         self.assertEqual((done.returncode, done.stderr), (0, b""))
-        self.assertIn(b"locked key granted twice (`search.rt`, `look_up`)", b" ".join(done.stdout.split()))
+        self.assertIn(b"locked key granted twice (`instance_search.rt`, `look_up`)", b" ".join(done.stdout.split()))
 
     def test_a_standard_output_that_is_closed_is_a_failure(self):
         for word in ("aim", "--first", "--bodies", "--check"):
@@ -329,7 +329,7 @@ class Callers(unittest.TestCase):
 
     def test_every_caller_is_in_the_sources(self):
         page = (ROOT / "docs" / "CALLING.md").read_text("utf-8").partition("## Callers of single crates")[2]
-        source = (CRATES / "llb_examples" / "src" / "calling.rt").read_text("utf-8").split("\n")
+        source = (CRATES / "llb_examples" / "src" / "calling_page.rt").read_text("utf-8").split("\n")
         for line in page.split("\n"):
             if line.startswith("    "):
                 self.assertIn(line[4:], source)
