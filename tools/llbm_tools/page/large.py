@@ -170,8 +170,8 @@ def steps(page: Page, what: str, names: list[str]) -> None:
     page.measure(f"{what}, until what changed is shown", shown)
 
 
-# Holds back a search until its worker is asked for a look, so that both are there at once, however busy the host is; and
-# keeps in which order that worker answers.
+# Holds back a search until its worker is asked for a look, so that both are there at once, however busy the host is;
+# and keeps in which order that worker answers.
 ORDER = """(() => {
   const post = Worker.prototype.postMessage;
   const calls = new Map();

@@ -194,7 +194,7 @@ def grouped(suite: unittest.TestSuite) -> list[unittest.TestSuite]:
 
 @contextlib.contextmanager
 def temporary_folder() -> Iterator[None]:
-    """Makes a folder for temporary files that all users can write, as /tmp; there a build says what others have left."""
+    """Makes a folder for temporary files, which all users can write, as /tmp. There a build says what another left."""
     with (
         tempfile.TemporaryDirectory(prefix="tools-test-", ignore_cleanup_errors=True) as folder,
         mock.patch.dict(os.environ, TMPDIR=folder),
