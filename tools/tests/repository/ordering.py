@@ -19,9 +19,9 @@ from tests import base
 # Makes files in a folder until it is killed, also where the folder is removed.
 WRITES = """import contextlib, itertools, os, sys
 for number in itertools.count():
-    os.makedirs(sys.argv[1], exist_ok=True)
-    with contextlib.suppress(OSError), open(f"{sys.argv[1]}/{number % 100}", "w"):
-        pass
+    with contextlib.suppress(OSError):
+        os.makedirs(sys.argv[1], exist_ok=True)
+        open(f"{sys.argv[1]}/{number % 100}", "w").close()
     if number == 100:
         print("writes", flush=True)
 """
