@@ -18,7 +18,7 @@ use denote.Triple.Table.{run_framed, widened}
 use Rattle.llb_embed.proofs.KeptMachineValue.{X}
 use Rattle.llb_embed.proofs.handle_value.Held.drop.Symbol as its
 use Rattle.llb_embed.proofs.handle_value.Held.drop.Met as its_met
-use Rattle.llb_embed.specs.contracts.held.Held.drop as f
+use Rattle.llb_embed.specs.contracts.handle_value.Held.drop as f
 
 abbrev pub held_drops : Dict
 held_drops = impl ("llb_embed::handle_value::Held::drop" ∷ []) tnil dnil

@@ -12,7 +12,7 @@ use denote.Steps.{nothing}
 use denote.Struct.Struct.{within}
 use denote.Struct.Owning.{shape}
 use Rattle.llb_embed.specs.KeptPointer.{kept_owns, IsKept}
-use Rattle.llb_embed.specs.contracts.kept.Kept as kept
+use Rattle.llb_embed.specs.contracts.kept_pointer.Kept as kept
 use Rattle.llb_embed.specs.declared.handle_value.Held.{Held}
 use Rattle.std.specs.declared.alloc.Global.{Global}
 use Rattle.std.specs.declared.option.Option.{Option}
@@ -20,7 +20,7 @@ use Rattle.std.specs.declared.option.Option.TheVariants.{None, Some}
 use Rattle.std.specs.contracts.alloc.Global as global
 use Rattle.std.specs.contracts.impls.GlobalAllocator.TheImpl as TheImpl
 use Rattle.std.proofs.alloc.Global.TheLaws as global_laws
-use Rattle.llb_embed.specs.contracts.held.Held as held
+use Rattle.llb_embed.specs.contracts.handle_value.Held as held
 use Rattle.llb_embed.proofs.handle_value.Held.TheLaws as held_laws
 use Rattle.std_alloc.proofs.BoxSteps.Form.{Bx}
 use denote.RattleType.{RattleType}

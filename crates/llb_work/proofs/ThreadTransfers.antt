@@ -22,14 +22,14 @@ use Rattle.llb_ready.proofs.queue.ReadyQueue.TheSendSync as queue_crosses
 use Rattle.llb_ready.specs.contracts.queue.ReadyQueue as queue
 use Rattle.llb_board.specs.contracts.board.Board as board
 use Rattle.llb_work.specs.declared.early_end.Gated as gated
-use Rattle.llb_work.specs.contracts.tally.Tally as tally
+use Rattle.llb_work.specs.contracts.event_counts.Tally as tally
 use Rattle.llb_work.specs.contracts.shared_board.SharedBoard as shared
-use Rattle.llb_work.specs.contracts.watch.Watch as watch
+use Rattle.llb_work.specs.contracts.locked_value.Watch as watch
 use Rattle.llb_work.specs.contracts.key_waiters.KeyWaiters as waiters
-use Rattle.llb_work.specs.contracts.idle.Idle as idle
+use Rattle.llb_work.specs.contracts.idle_workers.Idle as idle
 use Rattle.llb_work.proofs.key_waiters.KeyWaiters.TheSendSync as waiters_cross
 use Rattle.llb_work.proofs.idle_workers.Idle.TheSendSync as idle_crosses
-use Rattle.llb_work.specs.contracts.crew.Crew as crew
+use Rattle.llb_work.specs.contracts.thread_scope.Crew as crew
 use Rattle.llb_work.specs.contracts.worker.WorkerKit as kit
 
 -- several threads may have the queue of the run at once

@@ -43,12 +43,12 @@ use Rattle.std.proofs.impls.GlobalAllocator.TheImpl.Met as allocator
 use Rattle.llb_embed.proofs.handle_value.Held.TheLaws as held_laws
 use Rattle.llb_embed.proofs.KeptMachineValue.{lone, kept_out, X, G, X-laws, G-laws, E, none_drops, some_is}
 use Rattle.llb_embed.specs.KeptPointer.{kept_owns, IsKept}
-use Rattle.llb_embed.specs.contracts.kept.Kept as kept
+use Rattle.llb_embed.specs.contracts.kept_pointer.Kept as kept
 use denote.Param.NoDrop.{glues}
 use Rattle.std_alloc.specs.contracts.boxed.Box.from_raw as callee
 use Rattle.std_alloc.proofs.boxed.Box.from_raw.Met.{met}
-use Rattle.llb_embed.specs.contracts.kept.Kept.into_box.{ended, clauses}
-use Rattle.llb_embed.specs.contracts.kept.Kept.into_box.Key.{name as #self}
+use Rattle.llb_embed.specs.contracts.kept_pointer.Kept.into_box.{ended, clauses}
+use Rattle.llb_embed.specs.contracts.kept_pointer.Kept.into_box.Key.{name as #self}
 use Rattle.llb_embed.proofs.kept_pointer.Kept.into_box.Statement.{statement}
 use Rattle.llb_embed.proofs.kept_pointer.Kept.into_box.Code as code
 

@@ -15,10 +15,10 @@ use denote.Triple.Walked.{Stays, walk_of}
 use Rattle.std.proofs.raw_atomic.Walks.{proved_at, leaves}
 use Rattle.std.specs.declared.option.Option.TheVariants.{None}
 use Rattle.std.specs.declared.alloc.Global.{Global}
-use Rattle.llb_embed.specs.contracts.kept.Kept as kept
+use Rattle.llb_embed.specs.contracts.kept_pointer.Kept as kept
 use Rattle.llb_embed.proofs.KeptMachineValue.{lone, kept_in}
-use Rattle.llb_embed.specs.contracts.kept.Kept.none.{ended, clauses}
-use Rattle.llb_embed.specs.contracts.kept.Kept.none.Key.{name as #self}
+use Rattle.llb_embed.specs.contracts.kept_pointer.Kept.none.{ended, clauses}
+use Rattle.llb_embed.specs.contracts.kept_pointer.Kept.none.Key.{name as #self}
 use Rattle.llb_embed.proofs.kept_pointer.Kept.none.Statement.{statement}
 use Rattle.llb_embed.proofs.kept_pointer.Kept.none.Code as code
 

@@ -41,15 +41,15 @@ use Rattle.std.specs.contracts.impls.GlobalAllocator.TheImpl as TheImpl
 use Rattle.std.proofs.alloc.Global.TheLaws as global_laws
 use Rattle.std.proofs.impls.GlobalAllocator.TheImpl.Met as allocator
 use Rattle.llb_embed.proofs.handle_value.Held.TheLaws as held_laws
-use Rattle.llb_embed.specs.contracts.held.Held as held
+use Rattle.llb_embed.specs.contracts.handle_value.Held as held
 use Rattle.llb_embed.proofs.KeptMachineValue.{lone, kept_in, X, G, X-laws, G-laws, E, none_drops}
 use Rattle.llb_embed.proofs.DropGlue.{held_drops, held_glued}
-use Rattle.llb_embed.specs.contracts.kept.Kept as kept
+use Rattle.llb_embed.specs.contracts.kept_pointer.Kept as kept
 use denote.Param.NoDrop.{glues}
 use Rattle.std_alloc.specs.contracts.boxed.Box.into_raw as callee
 use Rattle.std_alloc.proofs.boxed.Box.into_raw.Met.{met}
-use Rattle.llb_embed.specs.contracts.kept.Kept.of.{ended, clauses}
-use Rattle.llb_embed.specs.contracts.kept.Kept.of.Key.{name as #self}
+use Rattle.llb_embed.specs.contracts.kept_pointer.Kept.of.{ended, clauses}
+use Rattle.llb_embed.specs.contracts.kept_pointer.Kept.of.Key.{name as #self}
 use Rattle.llb_embed.proofs.kept_pointer.Kept.of.Statement.{statement}
 use Rattle.llb_embed.proofs.kept_pointer.Kept.of.Code as code
 
