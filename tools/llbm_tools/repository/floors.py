@@ -11,8 +11,8 @@ What is checked:
 - A head names no crate that crates.txt lacks; and where it says that the crate knows no tree, graph, operation, worker
   or the like, the crate does not use the crate of these.
 - The head of a crate's specs/Lib.antt, which is the order in which to read its files, names each of them.
-- The proofs of a crate cite proofs of another crate only if that one lends them (LENDERS), or for `ThreadTransfers.antt`,
-  which shows that a type may go to another thread.
+- The proofs of a crate cite proofs of another crate only if that one lends them (LENDERS), or for
+  `ThreadTransfers.antt`, which shows that a type may go to another thread.
 
 Out: on standard output `PATH: what is wrong`, a line each.
 
