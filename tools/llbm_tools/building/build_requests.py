@@ -1,7 +1,6 @@
 """What a build is asked for, and the checks of it that need neither the program nor the trees of the sources."""
 
 import argparse
-import hashlib
 import os
 import shutil
 import sys
@@ -11,6 +10,7 @@ from typing import NamedTuple
 from llbm_tools import inputs
 from llbm_tools.building.kept_builds import check_place, state_at
 from llbm_tools.common import check_open, program_place
+from llbm_tools.hashes import sha256
 from llbm_tools.images import packing
 from llbm_tools.llb.given_definitions import definition_at
 from llbm_tools.rules import filters
@@ -48,7 +48,7 @@ def source_of(word: str) -> Named:
 
 def digest_of(paths: filters.Paths) -> str:
     """Returns the digest of some paths."""
-    return hashlib.sha256(b"\0".join(sorted(paths))).hexdigest()
+    return sha256(b"\0".join(sorted(paths))).hexdigest()
 
 
 class Request:
@@ -170,8 +170,8 @@ class Request:
         sources = [[source.name, source.shown, os.path.abspath(source.place)] for source in self.sources]
         return {
             **options,
-            "config": hashlib.sha256(self.config).hexdigest(),
-            "definition": hashlib.sha256(self.data).hexdigest(),
+            "config": sha256(self.config).hexdigest(),
+            "definition": sha256(self.data).hexdigest(),
             "program": [program, state_at(program) if program else None],
             "result": os.path.abspath(self.result),
             "selected": [None if paths is None else digest_of(paths) for paths in self.selected],
