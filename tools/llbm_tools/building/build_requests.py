@@ -13,7 +13,7 @@ from llbm_tools.common import check_open, program_place
 from llbm_tools.hashes import sha256
 from llbm_tools.images import packing
 from llbm_tools.llb.given_definitions import definition_at
-from llbm_tools.rules import filters
+from llbm_tools.rules.filters import Filters, Paths
 from llbm_tools.streams import Refused, program_at
 from llbm_tools.trees import times
 
@@ -46,7 +46,7 @@ def source_of(word: str) -> Named:
     return Named(name, place, inputs.shown(place))
 
 
-def digest_of(paths: filters.Paths) -> str:
+def digest_of(paths: Paths) -> str:
     """Returns the digest of some paths."""
     return sha256(b"\0".join(sorted(paths))).hexdigest()
 
@@ -63,7 +63,9 @@ class Request:
         self.ending = packing.PLAIN if self.is_output else packing.ending_of_result(options.result)
         self.data = b""
         self.config = b""
-        self.selected: list[filters.Paths | None] = []
+        # The paths that filters select of each source, None if all of it is given; and whose filters are applied.
+        self.selected: list[Paths | None] = []
+        self.filtered: set[str] = set()
 
     def places(self) -> list[str]:
         """Returns the places of all inputs."""
@@ -91,26 +93,9 @@ class Request:
             raise Refused(f"there is no such directory: {self.above}")
         self.data = definition_at(self.options.definition, lambda: program_at(self.options.llbm))
         self.config = self.image_config()
-        self.selected = self.select()
-
-    def select(self) -> list[filters.Paths | None]:
-        """Returns the paths that the filters of each source select of a directory; None if all of it is given."""
-        if self.options.no_filters or not filters.filtered_names(self.data):
-            return [None] * len(self.sources)
-        return [self.selected_of(source) for source in self.sources]
-
-    def selected_of(self, source: Named) -> filters.Paths | None:
-        """Returns the paths that the filters of a source select."""
-        # The help of the tool needs no sources, nor what reads them.
-        from llbm_tools.trees import source_texts
-
-        if inputs.is_pipe(source.place) or source_texts.kind_of(source.place) != source_texts.DIRECTORY:
-            return None
-        return filters.selected(self.data, source.name, source.place)
-
-    def filtered(self) -> set[str]:
-        """Returns the names of the sources whose filters are applied."""
-        return {source.name for source, paths in zip(self.sources, self.selected) if paths is not None}
+        filters = Filters(self.data, are_applied=not self.options.no_filters)
+        self.selected = [filters.selected(source.name, source.place) for source in self.sources]
+        self.filtered = filters.applied
 
     def image_config(self) -> bytes:
         """Returns the configuration for an image as JSON; one that is given for another result is refused."""

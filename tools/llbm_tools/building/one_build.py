@@ -100,7 +100,7 @@ class Build:
         for note in source_names.word_notes(self.request.data, names) if names else []:
             say(note)
         heeded = FOLLOWED if self.options.links else ""
-        for note in notes.lines_of(self.request.data, self.request.filtered(), heeded):
+        for note in notes.lines_of(self.request.data, self.request.filtered, heeded):
             say(note)
         plan = sources_by_value.plan_of(self.request.data, llbm) if names and not self.options.by_value else None
         cause = ASKED if self.options.by_value else plan.all if plan else UNREADABLE

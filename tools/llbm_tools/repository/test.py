@@ -91,6 +91,7 @@ MODULES = [
     "running.words",
     "running.running",
     "running.checking",
+    "running.filtered_runs",
     "statuses",
     "llb.properties",
     "definitions.impacting",
