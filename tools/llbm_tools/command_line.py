@@ -56,7 +56,7 @@ class Parser(argparse.ArgumentParser):
         self.add_argument("--version", action=Version)
 
     def add_argument(self, *names: str, **settings: Any) -> argparse.Action:
-        """Adds an argument. Words that may be missing have a default, so that no refusal says that they are required."""
+        """Adds an argument. Words that may be missing have a default, so no refusal says that they are required."""
         if settings.get("nargs") == "*" and not names[0].startswith("-"):
             settings.setdefault("default", [])
         return super().add_argument(*names, **settings)

@@ -45,7 +45,7 @@ from typing import NamedTuple
 
 from llbm_tools import common
 from llbm_tools.command_line import Parser
-from llbm_tools.daemon import buildkitd, daemon, debian_packages, go_building, runs, started_daemon
+from llbm_tools.daemon import buildkitd, daemon, runs, debian_packages, go_building, started_daemon
 from llbm_tools.daemon.go_building import OUT
 from llbm_tools.llb.messages import definition_of, edge, encoded, made
 from llbm_tools.measuring import large_definition

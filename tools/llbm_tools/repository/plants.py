@@ -51,7 +51,7 @@ class NotProved(Exception):
 
 
 class Answer(NamedTuple):
-    """What `rt plant` found in a crate: how many bodies it planted, what became of them, and those that the prover took."""
+    """What `rt plant` found in a crate: how many bodies it planted, what became of them, and which ones prove."""
 
     planted: int
     refused: int
