@@ -330,7 +330,7 @@ class Parts(base.Folder):
             self.assertEqual(replaced_results.common_place(places), wanted)
 
     def test_an_exchange_without_the_kernel_is_two_steps(self):
-        self.addCleanup(setattr, exchange, "kernel_call", atomic_exchange.kernel_call)
+        self.addCleanup(setattr, atomic_exchange, "kernel_call", atomic_exchange.kernel_call)
         one, two = os.fsdecode(self.file(b"one", b"1")), os.fsdecode(self.file(b"two", b"2"))
         self.assertTrue(atomic_exchange.exchange(one, two))
         atomic_exchange.kernel_call = lambda: None
