@@ -3,15 +3,14 @@ BuildKit."""
 
 from collections.abc import Iterator
 
-from llbm_tools.debugging.changes import Change, Compared
 from llbm_tools.debugging.last_event import Happened
+from llbm_tools.debugging.tree_changes import Change, Compared
 from llbm_tools.rules.rule_words import more_paths
 
 
 def change_line(change: Change) -> str:
     """Returns a change in one line: what happened, to which path, and the rest."""
-    kind, _, rest = change.shown().partition(" ")
-    return f"{kind} {change.path}: {rest}"
+    return f"{change.kind} {change.path}: {change.described()}"
 
 
 def compared_lines(compared: Compared, most: int) -> Iterator[str]:

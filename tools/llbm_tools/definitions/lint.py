@@ -1,6 +1,6 @@
 """Prints everything that keeps llbm from accepting a definition, not only the first fault, and what has no effect.
 
-In: a definition, on standard input or in the file DEFINITION.
+In: a definition, or the text of one, on standard input or in the file DEFINITION.
 
 Out: on standard output a line for each finding, `fault NUMBER ..` in the words of the program, as `explain` reads them;
 then, after a tab, the name of the entry and its place in its source, if the definition has them. Characters that cannot
@@ -8,8 +8,8 @@ be printed are escaped. The program finds them (`show --findings`): --llbm PROGR
 repository. The first line is the fault that each other command of it prints. The others are sorted by entry, those
 without an entry first, and within an entry by the number of the fault. Each feature of fault 88 and each rule of fault
 89 is checked in each entry that is reachable from the result; an entry that is not an op, and an input that names no
-row, lead to none. Of an entry that is not an op only its first fault is printed. If the definition is a text, standard
-error says so.
+row, lead to none. Of an entry that is not an op only its first fault is printed. Of a text that makes no definition
+standard error says so.
 
 After the findings there is a line `note ENTRY NAME` for each field of such an entry that is set, has an effect in
 BuildKit and none here; `action N`, `mount N` or the key of an attribute may follow the name. With --like-buildkit there
@@ -24,11 +24,13 @@ line is refused; 3 a read or a write failed.
 
 import argparse
 import sys
+from typing import NamedTuple
 
-from llbm_tools import common, inputs, objects
+from llbm_tools import common, objects
 from llbm_tools.command_line import Parser
 from llbm_tools.llb import names, no_definition
 from llbm_tools.llb.findings import Finding, findings_of
+from llbm_tools.llb.given_definitions import bytes_at
 from llbm_tools.llb.wire import Unreadable
 from llbm_tools.rules import notes, rules_program
 from llbm_tools.streams import Refused, exit_status, program_to_ask
@@ -51,36 +53,41 @@ def notes_of(data: bytes, found: list[Finding], is_like: bool) -> list[notes.Row
         return []
 
 
-def lines_of(data: bytes, llbm: str, is_like: bool) -> tuple[list[str], list[str]]:
+class Line(NamedTuple):
+    """A line: its kind, `fault` or `note`, its words, and the name of its entry, or nothing."""
+
+    kind: str
+    words: str
+    name: str
+
+    def text(self) -> str:
+        """Returns the line as it is printed."""
+        return "\t".join(filter(None, [f"{self.kind} {self.words}", self.name]))
+
+
+def lines_of(data: bytes, llbm: str, is_like: bool) -> tuple[list[Line], list[Line]]:
     """Returns a line for each finding, and one for each note; with `is_like` also for what can end otherwise."""
     found = findings_of(data, llbm)
     noted = notes_of(data, found, is_like)
     shown = names_in(data) if found or noted else []
 
-    def line(kind: str, words: str, row: int | None) -> str:
-        name = shown[row] if shown and row is not None else ""
-        return "\t".join(filter(None, [common.printable(f"{kind} {words}"), name]))
+    def line(kind: str, words: str, row: int | None) -> Line:
+        return Line(kind, common.printable(words), shown[row] if shown and row is not None else "")
 
     faults = [line("fault", finding.words(), finding.row) for finding in found]
     return faults, [line("note", one.words(), one.row) for one in noted]
 
 
-def finding_of(line: str) -> dict[str, str]:
-    """Returns the object of a line."""
-    words, _, name = line.partition("\t")
-    kind, _, rest = words.partition(" ")
-    return {"kind": kind, "words": rest, "name": name}
-
-
-def members_of(faults: list[str], noted: list[str]) -> dict[str, object]:
+def members_of(faults: list[Line], noted: list[Line]) -> dict[str, object]:
     """Returns the members of the object of all findings and notes."""
-    found = [finding_of(line) for line in faults + noted]
-    return {"findings": found, "faults": len(faults), "notes": len(noted)}
+    return {"findings": [one._asdict() for one in faults + noted], "faults": len(faults), "notes": len(noted)}
 
 
-def text_of(faults: list[str], noted: list[str], *, is_json: bool) -> str:
+def text_of(faults: list[Line], noted: list[Line], *, is_json: bool) -> str:
     """Returns what is printed."""
-    return objects.text_of(members_of(faults, noted)) if is_json else "".join(f"{one}\n" for one in faults + noted)
+    if is_json:
+        return objects.text_of(members_of(faults, noted))
+    return "".join(f"{one.text()}\n" for one in faults + noted)
 
 
 def parse_options() -> argparse.Namespace:
@@ -99,7 +106,8 @@ def parse_options() -> argparse.Namespace:
 
 def lint(options: argparse.Namespace) -> int:
     """Prints the findings, and returns the exit status."""
-    llbm, data = program_to_ask(options.llbm), inputs.data_at(options.definition)
+    llbm = program_to_ask(options.llbm)
+    data = bytes_at(options.definition, lambda: llbm)
     faults, noted = lines_of(data, llbm, options.like_buildkit)
     try:
         no_definition.check(data, options.definition)
