@@ -58,10 +58,9 @@ function opInWords({ kind, inputs, ...op }) {
 
 /** An entry of a definition. All of it is read when it is asked for. */
 class Entry {
-  constructor(row, digest, bytes, about, ops) {
+  constructor(row, digest, about, ops) {
     this.row = row;
     this.digest = digest;
-    this.bytes = bytes;
     this.about = about;
     this.ops = ops;
     this.word = null;
@@ -127,8 +126,7 @@ function opsOf(machine, definition) {
 /** Returns what the machine says of a definition's entries: their digests and their ops, which are kept. */
 export function saidOf(machine, definition) {
   if (!kept.has(definition)) {
-    const all = optional(() => entriesIn(definition), []);
-    const digests = optional(() => digestsOf(machine.handle(), all), []);
+    const digests = optional(() => digestsOf(machine.handle(), entriesIn(definition)), []);
     keepSaid(definition, { digests, ops: opsOf(machine, definition) });
   }
   return kept.get(definition);
@@ -142,11 +140,10 @@ export function opsText(machine, definition) {
 /** Returns the entries of a definition by row, and the first one of each digest; they are kept with its bytes. */
 export function entriesOf(machine, definition) {
   if (known.has(definition)) return known.get(definition);
-  const all = optional(() => entriesIn(definition), []);
   const { digests, ops: said } = saidOf(machine, definition);
   const about = new Metadata(definition);
   const ops = new Ops(said, digests);
-  const rows = digests.map((digest, row) => new Entry(row, digest, all[row], about, ops));
+  const rows = digests.map((digest, row) => new Entry(row, digest, about, ops));
   const first = new Map();
   for (const entry of rows) if (!first.has(entry.digest)) first.set(entry.digest, entry);
   const found = { rows, first };

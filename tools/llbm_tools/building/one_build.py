@@ -5,17 +5,17 @@ import os
 import tempfile
 from typing import TYPE_CHECKING
 
-from llbm_tools.building import child_processes, folders, replaced_results, sources_by_value
+from llbm_tools.building import build_folders, child_processes, replaced_results, sources_by_value
+from llbm_tools.building.atomic_exchange import exchange
 from llbm_tools.building.build_requests import NOTHING, Ended, Request
 from llbm_tools.building.child_processes import held_back
-from llbm_tools.building.exchange import exchange
 from llbm_tools.building.given_sources import Given, stored_at
 from llbm_tools.building.kept_builds import Build as LastBuild
 from llbm_tools.building.kept_builds import forget, state_at
 from llbm_tools.building.kept_changes import Memory
 from llbm_tools.building.program_runs import Program
 from llbm_tools.building.result_texts import Checked, read_line
-from llbm_tools.building.result_writing import DirectoryWriter, write_archive
+from llbm_tools.building.result_writing import DirectoryWriter
 from llbm_tools.building.source_readings import digests_of, kept_of, other_digests, recorders_of, resolved
 from llbm_tools.common import say
 from llbm_tools.images import packing
@@ -23,7 +23,7 @@ from llbm_tools.inputs import shown
 from llbm_tools.llb import source_names
 from llbm_tools.rules import notes
 from llbm_tools.streams import FAILED, REFUSED, program_at, program_to_ask, write_output
-from llbm_tools.trees import times
+from llbm_tools.trees import entry_times
 from llbm_tools.trees.content_tokens import Copier, Table
 from llbm_tools.trees.kept_sources import bytes_of
 from llbm_tools.trees.source_texts import Reading
@@ -62,9 +62,9 @@ class Build:
     def make_folders(self) -> None:
         """Makes the folder for the texts, and the one that becomes the result."""
         with held_back():
-            self.texts = folders.made(folders.TEXTS, tempfile.gettempdir())
+            self.texts = build_folders.made(build_folders.TEXTS, tempfile.gettempdir())
             above = self.texts if self.request.is_output else self.request.above
-            self.directory = folders.made(folders.RESULT, above)
+            self.directory = build_folders.made(build_folders.RESULT, above)
 
     def hidden(self) -> list[os.stat_result]:
         """Returns what is no part of a source."""
@@ -100,7 +100,7 @@ class Build:
         for note in source_names.word_notes(self.request.data, names) if names else []:
             say(note)
         heeded = FOLLOWED if self.options.links else ""
-        for note in notes.lines_of(self.request.data, self.request.filtered(), heeded):
+        for note in notes.lines_of(self.request.data, self.request.filtered, heeded):
             say(note)
         plan = sources_by_value.plan_of(self.request.data, llbm) if names and not self.options.by_value else None
         cause = ASKED if self.options.by_value else plan.all if plan else UNREADABLE
@@ -142,7 +142,9 @@ class Build:
         self.program = Program(llbm, definition, texts, self.texts)
         ran = self.following.finish if self.following and self.following.needs_outputs() else None
         if ran or self.options.progress:
-            result = self.program.run_session(self.options.workers, is_shown=self.options.progress, ran=ran)
+            from llbm_tools.building import session_runs
+
+            result = session_runs.run(self.program, self.options.workers, is_shown=self.options.progress, ran=ran)
         else:
             result = self.program.run(self.options.workers)
         if self.following:
@@ -185,7 +187,10 @@ class Build:
 
     def write_archive(self, result: str, place: str) -> None:
         """Writes the result as an archive, which is packed or made the layer of an image if its name says so."""
-        form, time = packing.form_of_name(place), times.time_of_archive(self.options.mtime)
+        # Most results are directories.
+        from llbm_tools.building.archive_results import write_archive
+
+        form, time = packing.form_of_name(place), entry_times.time_of_archive(self.options.mtime)
         is_image = self.request.ending == packing.IMAGE
         plain = os.path.join(self.directory, "plain") if form or is_image else place
         write_archive(result, plain, self.table(), time, self.options.largest)
@@ -198,7 +203,7 @@ class Build:
             # Few results are images.
             from llbm_tools.images import oci_layout
 
-            oci_layout.write(archive, packed, self.request.config, time, times.is_given(self.options.mtime))
+            oci_layout.write(archive, packed, self.request.config, time, entry_times.is_given(self.options.mtime))
 
     def pass_archive(self, place: str) -> None:
         """Writes the archive to standard output."""

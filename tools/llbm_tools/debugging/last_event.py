@@ -5,12 +5,12 @@ an action is compared with the tree that the action was done on, and the worker 
 """
 
 import re
-from collections.abc import Mapping
+from collections.abc import Collection, Mapping
 from typing import IO, NamedTuple
 
-from llbm_tools.debugging import changes, vertex_failures, worker_trees
+from llbm_tools.debugging import tree_changes, vertex_failures, worker_trees
 from llbm_tools.debugging.buildkit_comparison import BuildkitComparison
-from llbm_tools.debugging.changes import Compared
+from llbm_tools.debugging.tree_changes import Compared
 from llbm_tools.debugging.vertex_lines import Graph, Vertex
 from llbm_tools.llb import definition
 from llbm_tools.llb.ops import Mount
@@ -80,19 +80,20 @@ def compared(name: str, before: Flat, after: Flat, most: int) -> Compared:
         return Compared(name, [], {}, f"not compared: {before}")
     if isinstance(after, str):
         return Compared(name, [], {}, f"not compared: {after}")
-    return changes.compared(name, before, after, most)
+    return tree_changes.compared(name, before, after, most)
 
 
 class Watch:
-    """Says what events of a session of a definition changed; with the files of its sources' trees also what ends
-    otherwise in BuildKit."""
+    """Says what events of a session of a definition changed; with the files of its sources' trees, and the names of
+    those to which filters were applied, also what ends otherwise in BuildKit."""
 
     def __init__(
-        self, session: Session, graph: Graph, data: bytes, sources: Mapping[str, IO[bytes]] | None = None
+        self, session: Session, graph: Graph, data: bytes, sources: Mapping[str, IO[bytes]] | None = None,
+        filtered: Collection[str] = (),
     ) -> None:
         self.session = session
         self.graph = graph
-        self.comparison = None if sources is None else BuildkitComparison(session, graph, data, sources)
+        self.comparison = None if sources is None else BuildkitComparison(session, graph, data, sources, filtered)
 
     def outside(self) -> list[str]:
         """Returns what ends otherwise in BuildKit by entries that are no vertices."""

@@ -6,18 +6,18 @@ can't be in a tree is named on standard error and left out with everything below
 
 import collections
 import errno
-import hashlib
 import os
 import stat
 from collections.abc import Iterable
 from typing import BinaryIO, NamedTuple
 
 from llbm_tools.common import MOST_BYTES, MOST_NAMES, is_name
+from llbm_tools.hashes import sha256
 from llbm_tools.os_errors import in_words
 from llbm_tools.streams import Failed, of_place
 from llbm_tools.trees import links
-from llbm_tools.trees.attributes import attributes_of, path_in
 from llbm_tools.trees.content_tokens import DIRECTORY, FILE, MARK, Table, token
+from llbm_tools.trees.extended_attributes import attributes_of, path_in
 from llbm_tools.trees.kept_sources import Directory, Recorder
 from llbm_tools.trees.left_out import ATTRIBUTE, DEVICE, LINK, NO_NAME, PIPE, TOO_DEEP, Exclusion, LeftOut
 from llbm_tools.trees.trees import Owner, line_start
@@ -210,7 +210,7 @@ class DirectoryText:
         target = os.readlink(name, dir_fd=above.descriptor)
         content = self.contents(target)
         if above.kept:
-            above.kept.note(hashlib.sha256(target).digest(), None)
+            above.kept.note(sha256(target).digest(), None)
         owner = self.owner or (found.st_uid, found.st_gid)
         self.text.write(line_start(b"f", links.MODE, owner) + b"%b %b\n" % (content.hex().encode(), path))
         self.leave_attributes(path, attributes_of(path_in(above.descriptor, name)))
@@ -238,7 +238,7 @@ class DirectoryText:
 
     def value(self, above: Place, path: bytes, name: bytes) -> None:
         """Writes the line of a file with its content."""
-        digest = hashlib.sha256()
+        digest = sha256()
         with open(os.open(name, FILE, dir_fd=above.descriptor), "rb", buffering=0) as content:
             found = os.fstat(content.fileno())
             if not stat.S_ISREG(found.st_mode):

@@ -12,7 +12,7 @@ import unittest
 
 from llbm_tools.compiling import library_code, unproved_code
 from llbm_tools.llb import names
-from llbm_tools.llb.asking import ask
+from llbm_tools.llb.program_questions import ask
 from llbm_tools.page import assets, fault_sentences, wasm_module
 from llbm_tools.streams import Failed
 from tests import base
@@ -204,7 +204,7 @@ class InNode(Folder):
           const found = verticesOf(machineOf('', {json.dumps(ops)}), definition, digests).map((v) => {text});
           console.log(JSON.stringify(found));"""
         words = ["node", "--input-type=module", "-e", script, PAGE.as_uri(), self.file(b"tables.json", assets.tables())]
-        done = subprocess.run(words, capture_output=True, timeout=base.GUARD)
+        done = subprocess.run([*words, base.llbm], capture_output=True, timeout=base.GUARD)
         self.assertEqual((done.returncode, done.stderr), (0, b""))
         return json.loads(done.stdout)
 
