@@ -4,9 +4,10 @@
  * inside the window are in the page.
  */
 
-import { by, draw, inTurns, oncePerFrame } from './dom.mjs';
+import { by, draw, oncePerFrame } from './dom.mjs';
 import { isFailure, isFault, wordsOf } from './record.mjs';
 import { Track } from './time_track.mjs';
+import { inTurns } from './turns.mjs';
 
 const STEP = 24;
 const ROW = 24;

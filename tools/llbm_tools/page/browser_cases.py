@@ -318,30 +318,50 @@ def the_start(page: Page) -> None:
 
 def a_trap(page: Page) -> None:
     """Makes the module stop in a session: the page tells it, and a new session works."""
-    script = page.browser.send("Page.addScriptToEvaluateOnNewDocument", {"source": TRAPPING})["identifier"]
+    place = page.folder / "trapping_worker.mjs"
+    place.write_text(TRAPPING, "utf-8")
+    script = page.browser.send("Page.addScriptToEvaluateOnNewDocument", {"source": WITH_TRAPS})["identifier"]
     page.example("tour")
     page.browser.send("Page.removeScriptToEvaluateOnNewDocument", {"identifier": script})
-    page.click("next")
-    page.run("globalThis.llbmTrap = true")
-    page.click("next")
+    for _ in range(BEFORE_A_TRAP):
+        page.click("next")
     check("stopped" in page.text("said") and "Open the definition again" in page.text("said"), page.text("said"))
-    page.run("globalThis.llbmTrap = false")
+    page.run("globalThis.llbmTraps = false")
     page.click("to-open")
     page.click("open-now")
     page.click("next")
     same(page.record(), ["claim 0 0"], "the session after it")
 
 
-# Makes each line of a session read outside of the module's memory first, while a variable says so: that traps.
+# A worker of a session whose module reads outside of its memory at a line: that traps. The page takes it in place of its
+# own until it is told not to.
+BEFORE_A_TRAP = 3
 TRAPPING = """
 const Instance = WebAssembly.Instance;
+let lines = 0;
 WebAssembly.Instance = function (...given) {
   const { exports } = new Instance(...given);
   const line = (...words) => {
-    if (globalThis.llbmTrap) exports.page_free(0xfffffff0n);
+    lines += 1;
+    if (lines > 6) exports.page_free(0xfffffff0n);
     return exports.llb_line(...words);
   };
   return { exports: { ...exports, llb_line: line } };
+};
+const early = [];
+const keep = (event) => early.push(event.data);
+addEventListener('message', keep);
+await import('./session_worker.mjs');
+removeEventListener('message', keep);
+for (const data of early) dispatchEvent(new MessageEvent('message', { data }));
+"""
+WITH_TRAPS = """
+globalThis.llbmTraps = true;
+globalThis.Worker = class extends Worker {
+  constructor(name, options) {
+    const isOne = globalThis.llbmTraps && name === 'session_worker.mjs';
+    super(isOne ? 'trapping_worker.mjs' : name, options);
+  }
 };
 """
 
