@@ -40,8 +40,8 @@ TIME_IS_OVER = re.compile(r"^--- FAIL: \w+ \([0-9.]+s\)\n +context deadline exce
 MINUTE = 60
 # The tests have the tags of the programs, so what both need is compiled once; `vet` is a part, and nobody debugs them.
 AS_BUILT = [*daemon.STATIC, "-vet=off", "-ldflags=-s -w"]
-# How long the tests in Go may take, on the slowest host.
-HOUR = 3600
+# How many seconds the tests in Go may take: ten times what they take on a slow host.
+GUARD = 6000
 MOST_LINES = 100
 
 
@@ -83,9 +83,9 @@ def tried(go: Go, options: argparse.Namespace) -> Counts:
     """Runs the tests in Go."""
     known = go._replace(environment={**go.environment, "LLBM": options.llbm})
     try:
-        words = [*AS_BUILT, "-v", "-count=1", f"-timeout={HOUR}s", f"-shuffle={options.order or 'off'}"]
+        words = [*AS_BUILT, "-v", "-count=1", f"-timeout={GUARD}s", f"-shuffle={options.order or 'off'}"]
         words += ["-short"] if options.short else []
-        return counts_in(known.call("test", *words, *packages(), seconds=HOUR + MINUTE))
+        return counts_in(known.call("test", *words, *packages(), seconds=GUARD + MINUTE))
     except go_building.NotBuilt as fault:
         counts = counts_in(str(fault))
         lines = (line for line in str(fault).splitlines() if not UNINTERESTING.match(line))
@@ -97,7 +97,7 @@ def fuzzed(go: Go, options: argparse.Namespace) -> Counts:
     """Sends at random what clients may send as a source."""
     words = ["-run=^$", f"-fuzz={FUZZED[1]}", f"-fuzztime={options.fuzz}s", "-parallel=1"]
     try:
-        go.call("test", *words, FUZZED[0], seconds=HOUR + options.fuzz)
+        go.call("test", *words, FUZZED[0], seconds=GUARD + options.fuzz)
     except go_building.NotBuilt as fault:
         if not TIME_IS_OVER.search(str(fault)):
             raise

@@ -24,7 +24,7 @@ STAMP = "unpacked"
 COMMANDS = ("apt-get", "dpkg-deb")
 KEYRINGS = [pathlib.Path("/usr/share/keyrings/debian-archive-keyring" + end) for end in (".pgp", ".gpg")]
 URIS = ["indextargets", "--no-release-info", "--format", "$(REPO_URI)", "Created-By: Packages"]
-MOST_SECONDS = 900
+MOST_SECONDS = 6000
 MOST_LINES = 5
 
 # The commands that the host runs after an update are for its own folders.
@@ -100,7 +100,7 @@ class Apt:
                 env={**os.environ, "LC_ALL": "C"},
             )  # fmt: skip
         except subprocess.TimeoutExpired as fault:
-            raise Missing(f"apt-get {words[0]} did not end in {MOST_SECONDS} seconds") from fault
+            raise Missing(f"no answer in {MOST_SECONDS} seconds: apt-get {words[0]}") from fault
 
     def update(self, release: str) -> None:
         """Gets the lists of a release from the first of the host's repositories that has it."""

@@ -22,7 +22,9 @@ CACHE = OUT / "go-cache"
 GO = pathlib.Path("usr", "lib", "go-1.24")
 CODE = pathlib.Path("usr", "share", "gocode")
 PLUGINS = pathlib.Path("usr", "libexec", "docker", "cli-plugins")
-PATIENCE = 1800
+# How many seconds Go may take: ten times what it takes on a slow host to build the daemon from nothing. Where it does
+# not find out in its own time whether it has all modules, Debian's packages have them.
+PATIENCE = 6000
 MODULES_PATIENCE = 300
 
 
@@ -45,7 +47,7 @@ class Go(NamedTuple):
                 stdout=subprocess.PIPE, stderr=subprocess.STDOUT, text=True, errors="replace", timeout=seconds,
             )  # fmt: skip
         except subprocess.TimeoutExpired as fault:
-            raise NotBuilt(f"did not end in {seconds} seconds: go {words[0]}") from fault
+            raise NotBuilt(f"no answer in {seconds} seconds: go {words[0]}") from fault
         if done.returncode:
             raise NotBuilt(f"ended with status {done.returncode}: go {' '.join(words)}\n{done.stdout.strip()}")
         return done.stdout

@@ -87,10 +87,16 @@ def terminated(number: int, _frame: object) -> None:
 
 
 def session(given: int, taken: int, token: str | None) -> None:
-    """Serves a client, whose requests come from one descriptor and whose responses go to another."""
+    """Serves a client, whose requests come from one descriptor and whose responses go to another.
+
+    The end of a session is done whole, and once it has begun nothing is left that a signal would have to end.
+    """
     adapter = Adapter(Writer(taken), token)
     try:
-        serve(adapter, Reader(given))
+        try:
+            serve(adapter, Reader(given))
+        finally:
+            signal.signal(signal.SIGTERM, signal.SIG_IGN)
     finally:
         adapter.dismiss()
 

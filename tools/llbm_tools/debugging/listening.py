@@ -62,14 +62,19 @@ class Sessions:
         self.reap()
         if len(self.processes) == MOST_SESSIONS:
             self.refuse(connection)
-        elif number := os.fork():
-            self.processes.add(number)
-        else:
-            self.processes = set()
+        elif self.fork():
             listener.close()
             return connection
         connection.close()
         return None
+
+    def fork(self) -> bool:
+        """Begins the process of a session, and returns whether this is that one; no signal comes before it is known."""
+        signal.pthread_sigmask(signal.SIG_BLOCK, [signal.SIGTERM])
+        number = os.fork()
+        self.processes = {*self.processes, number} if number else set()
+        signal.pthread_sigmask(signal.SIG_UNBLOCK, [signal.SIGTERM])
+        return number == 0
 
 
 def listening_at(port: int) -> socket.socket:

@@ -14,15 +14,16 @@ const [from, module] = process.argv.slice(2);
 const { Machine, Trap } = await import(pathToFileURL(path.resolve(from)));
 const machine = await Machine.from(fs.readFileSync(module));
 
+const decoder = new TextDecoder();
 const bytesOf = (text) => new Uint8Array(Buffer.from(text, 'base64'));
 const told = (handle, status) => ({ status, out: handle.output(), err: handle.messages() });
 
-// The lines of commands: the last one counts without an end, and nothing after the last end is a line.
+// The lines of commands, as texts: the last one counts without an end, and nothing after the last end is a line.
 function* linesOf(commands) {
   for (let at = 0; at < commands.length;) {
     const found = commands.indexOf(10, at);
     const end = found < 0 ? commands.length : found;
-    yield commands.subarray(at, end);
+    yield decoder.decode(commands.subarray(at, end));
     at = end + 1;
   }
 }

@@ -21,10 +21,6 @@ from llbm_tools.paths import ROOT
 
 PAUSE = 0.2
 MINUTE = 60
-# Tests that need more than the 60 seconds that `rt try` gives each, or may need them on a host with other work.
-TOO_LONG = {"chain::a_chain_of_65535_vertices_is_evaluated_run_and_walked", "crowds::runs_by_any_number_of_workers_end"}
-NO_ANSWER = re.compile(r"test (\S+) \.\.\. FAILED\n +checked: no-answer: ")
-TRIED = "test result: "
 # What the address sanitizer says of memory that a test wants refused.
 EXPECTED = re.compile(r"==[0-9]+==WARNING: AddressSanitizer failed to allocate .*")
 
@@ -59,21 +55,9 @@ class Ended(NamedTuple):
 
     def counts(self) -> Counts:
         """Returns the counts of the part, from its last line with counts; a nonzero status is always a failure."""
-        found = [(line, counts) for line in self.lines if (counts := counting.read(line))]
-        if not found:
-            return Counts(int(self.status == 0), int(self.status != 0))
-        line, counts = found[-1]
-        late = too_long(self.lines) if line.startswith(TRIED) else 0
-        if late:
-            counts = counts._replace(failed=counts.failed - late, skipped=counts.skipped + late)
-            if not counts.failed:
-                return counts
+        found = [counts for line in self.lines if (counts := counting.read(line))]
+        counts = found[-1] if found else Counts(int(self.status == 0))
         return counts._replace(failed=max(counts.failed, 1)) if self.status else counts
-
-
-def too_long(lines: list[str]) -> int:
-    """Returns how many of the tests that need more time than `rt try` gives did not end in it."""
-    return sum(name in TOO_LONG for name in NO_ANSWER.findall("\n".join(lines)))
 
 
 def text_of(line: bytes) -> str:

@@ -18,10 +18,13 @@ Exit status: 0 all tests pass; 1 some fail; 2 the command line is refused; 130 i
 import argparse
 import collections
 import concurrent.futures
+import contextlib
 import io
 import multiprocessing
 import os
+import pathlib
 import random
+import select
 import shutil
 import signal
 import subprocess
@@ -115,6 +118,9 @@ MODULES = [
     "repository.ordering",
     "repository.forked",
 ]
+
+# Where tools keep what they compile, unless they can write it beside their modules.
+HOME = "XDG_CACHE_HOME"
 
 PLACES = {module.rpartition(".")[2]: module for module in MODULES}
 
@@ -292,6 +298,29 @@ def reorder(suites: list[unittest.TestSuite], dice: random.Random) -> None:
         suites[place] = unittest.TestSuite(tests)
 
 
+def kill_started_with(setting: str) -> None:
+    """Kills all processes that were started with a setting in their environment, and waits for their ends."""
+    for place in pathlib.Path("/proc").glob("[0-9]*/environ"):
+        with contextlib.suppress(OSError), open(os.pidfd_open(int(place.parent.name)), "rb") as process:
+            if os.fsencode(setting) in place.read_bytes().split(b"\0"):
+                signal.pidfd_send_signal(process.fileno(), signal.SIGKILL)
+                select.select([process], [], [])
+
+
+@contextlib.contextmanager
+def cache_folder() -> Iterator[str]:
+    """Yields a folder for what copies of the tools keep compiled, which is removed at the end.
+
+    What tests leave running, as where one of their processes dies, may write there: it is killed before. Nothing that
+    the removal meets hides what went wrong first.
+    """
+    with tempfile.TemporaryDirectory(prefix="tools-test-cache-", ignore_cleanup_errors=True) as folder:
+        try:
+            yield folder
+        finally:
+            kill_started_with(f"{HOME}={folder}")
+
+
 def test(options: argparse.Namespace) -> int:
     """Runs the tests with a program, if there is one, and returns the exit status."""
     word = options.llbm
@@ -299,10 +328,9 @@ def test(options: argparse.Namespace) -> int:
     if base.llbm is not None:
         # What is tested runs this program too, unless a test names another one.
         os.environ["LLBM"] = base.llbm
-    with tempfile.TemporaryDirectory(prefix="tools-test-cache-") as cache:
-        # What copies of the tools keep compiled is removed with them.
+    with cache_folder() as cache:
         os.environ["LLBM_CACHE"] = str(paths.CACHE)
-        os.environ["XDG_CACHE_HOME"] = cache
+        os.environ[HOME] = cache
         return test_all(options)
 
 

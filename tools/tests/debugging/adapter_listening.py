@@ -7,6 +7,7 @@ import pathlib
 import signal
 import socket
 import subprocess
+from unittest import mock
 
 from llbm_tools.debugging import debug_adapter, listening
 from tests import base
@@ -146,6 +147,41 @@ class Listening(WithFake):
         self.assertEqual(self.ended(self.adapter), (143, ""))
         self.assertIsNone(client.receive())
         self.check_no_file_is_left()
+
+
+class Ends(WithFake):
+    """Signals at the end of a session, which is done whole and says nothing of them."""
+
+    def session(self, serve):
+        """Returns what is done of a session that is served so and gets a signal as it ends and afterwards."""
+        done = []
+
+        def dismiss(_):
+            os.kill(os.getpid(), signal.SIGTERM)
+            done.append("dismissed")
+
+        self.addCleanup(signal.signal, signal.SIGTERM, signal.signal(signal.SIGTERM, debug_adapter.terminated))
+        changed = mock.patch.multiple(debug_adapter, serve=serve, Reader=mock.Mock(), Writer=mock.Mock())
+        with changed, mock.patch.object(debug_adapter.Adapter, "dismiss", dismiss):
+            debug_adapter.session(0, 1, None)
+        os.kill(os.getpid(), signal.SIGTERM)
+        return done
+
+    def test_a_signal_comes_after_the_client_has_left(self):
+        self.assertEqual(self.session(lambda adapter, reader: None), ["dismissed"])
+
+    def test_a_signal_ends_a_session(self):
+        with self.assertRaises(SystemExit) as end:
+            self.session(lambda adapter, reader: os.kill(os.getpid(), signal.SIGTERM))
+        self.assertEqual(end.exception.code, 143)
+
+    def test_a_signal_comes_once_the_process_of_a_session_is_known(self):
+        sessions, known = listening.Sessions(), []
+        terminated = signal.signal(signal.SIGTERM, lambda number, frame: known.extend(sessions.processes))
+        self.addCleanup(signal.signal, signal.SIGTERM, terminated)
+        with mock.patch("os.fork", lambda: os.kill(os.getpid(), signal.SIGTERM) or 7):
+            self.assertFalse(sessions.fork())
+        self.assertEqual(known, [7])
 
 
 class Refused(WithFake):

@@ -29,11 +29,6 @@ def loaded(name):
     return module
 
 
-LATE = [
-    "test chain::a_chain_of_65535_vertices_is_evaluated_run_and_walked ... FAILED",
-    "    checked: no-answer: the program did not end within the time limit",
-]
-OTHER = ["test crew::a_worker_is_stopped ... FAILED", "    checked: fault: index out of bounds"]
 # Uses the processor for 0.6 seconds at least, in a process that it starts.
 SPINS = """import os, time
 child = os.fork()
@@ -72,9 +67,7 @@ class Parts(base.WithPrograms):
             ([RESULT.format("ok", 71, 0, 2), "run=ended status=0 proved=no"], 0, 71, 0, 2),
             ([RESULT.format("FAILED", 70, 1, 0), "run=ended status=101 proved=no"], 101, 70, 1, 0),
             (["run=none proved=no"], 6, 0, 1),
-            ([*LATE, RESULT.format("FAILED", 60, 1, 0), "run=no-answer proved=no"], 6, 60, 0, 1),
-            ([*LATE, *OTHER, RESULT.format("FAILED", 59, 2, 0), "run=no-answer proved=no"], 6, 59, 1, 1),
-            ([LATE[0], OTHER[1], RESULT.format("FAILED", 60, 1, 0)], 4, 60, 1),
+            ([RESULT.format("FAILED", 60, 1, 0), "run=no-answer proved=no"], 6, 60, 1),
         ]:
             self.assertEqual(gate_parts.Ended(status, 0.0, lines).counts(), (*found, *[0] * (3 - len(found))), lines)
 
@@ -171,7 +164,7 @@ class Gate(base.WithPrograms):
     def test_the_quick_parts_do_not_prove(self):
         gate = loaded("gate")
         others = gate.parts_of_crates()
-        self.assertEqual({tuple(part.command) for part in others}, {("rt", "try", "--test")})
+        self.assertEqual({tuple(part.command[:3]) for part in others}, {("rt", "try", "--test")})
         self.assertEqual(sorted(part.folder.name for part in others), ["llb_examples", "llb_refusals", "llbm"])
         self.assertTrue(all(part.folder.is_dir() for part in others))
         quick = [part.shown().partition(" --")[0] for part in gate.parts_that_are_quick(7, "3")]

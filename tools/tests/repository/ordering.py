@@ -4,14 +4,26 @@ import io
 import multiprocessing
 import os
 import random
+import shutil
 import signal
 import subprocess
+import sys
 import unittest
 from concurrent.futures.process import BrokenProcessPool
 from unittest import mock
 
 from llbm_tools.repository import test as tested
 from tests import base
+
+# Makes files in a folder until it is killed, also where the folder is removed.
+WRITES = """import contextlib, itertools, os, sys
+for number in itertools.count():
+    os.makedirs(sys.argv[1], exist_ok=True)
+    with contextlib.suppress(OSError), open(f"{sys.argv[1]}/{number % 100}", "w"):
+        pass
+    if number == 100:
+        print("writes", flush=True)
+"""
 
 
 class Sample(unittest.TestCase):
@@ -85,3 +97,31 @@ class Run(unittest.TestCase):
     def test_a_process_that_dies_is_an_error(self):
         with self.assertRaises(BrokenProcessPool):
             self.run_in_two("passes", "dies", "ignores_a_signal")
+
+
+class Cache(unittest.TestCase):
+    """The folder for what copies of the tools keep compiled."""
+
+    def left(self, settings):
+        """Leaves a process that writes into the folder, and a first error; returns both as the folder is gone."""
+        with self.assertRaisesRegex(ValueError, "^the first$"), tested.cache_folder() as folder:
+            known = {**os.environ, **{name: value.format(folder) for name, value in settings.items()}}
+            words = [sys.executable, "-c", WRITES, folder]
+            child = subprocess.Popen(words, env=known, stdout=subprocess.PIPE)
+            for cleanup in (child.wait, child.kill, child.stdout.close):
+                self.addCleanup(cleanup)
+            self.assertEqual(child.stdout.readline(), b"writes\n")
+            raise ValueError("the first")
+        return child, folder
+
+    def test_what_is_left_running_is_killed_before_the_folder_is_removed(self):
+        child, folder = self.left({"XDG_CACHE_HOME": "{}"})
+        self.assertEqual(child.wait(base.GUARD), -signal.SIGKILL)
+        self.assertFalse(os.path.lexists(folder))
+
+    def test_a_folder_that_cannot_be_removed_hides_no_error(self):
+        child, folder = self.left({"XDG_CACHE_HOME": "/none"})
+        self.assertIsNone(child.poll())
+        child.kill()
+        self.assertEqual(child.wait(base.GUARD), -signal.SIGKILL)
+        shutil.rmtree(folder, ignore_errors=True)
