@@ -42,6 +42,8 @@ export class DefinitionView {
     this.lines = [];
     this.row = null;
     this.asked = 0;
+    // Whether the field has something else than what is open.
+    this.isEdited = false;
     this.isShown = (wanted() || (innerWidth < LEAST_WINDOW ? 'hidden' : 'shown')) === 'shown';
     this.field.addEventListener('input', () => this.wrote());
     this.field.addEventListener('scroll', () => this.place(), { passive: true });
@@ -64,7 +66,7 @@ export class DefinitionView {
   show() {
     by('views').classList.toggle('with-text', this.isShown);
     by('to-text').setAttribute('aria-pressed', String(this.isShown));
-    if (this.isShown && this.definition) this.fill();
+    if (this.isShown && this.definition && !this.isEdited) this.fill();
   }
 
   /** Shows another definition. `text` is what a person wrote, and `isOwn` says that it was written in this view. */
@@ -75,6 +77,7 @@ export class DefinitionView {
     this.say('');
     by('views').classList.toggle('with-text', this.isShown);
     // What a person is writing stays as it is, and is read later if it is more than what was read. Else it is gone.
+    this.isEdited = isOwn && text !== this.field.value;
     if (isOwn) {
       this.count();
       return;
@@ -114,6 +117,7 @@ export class DefinitionView {
   }
 
   wrote() {
+    this.isEdited = true;
     this.bad = null;
     this.count();
     clearTimeout(this.waits);
