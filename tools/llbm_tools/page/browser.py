@@ -25,7 +25,8 @@ FLAGS = (
 )  # fmt: skip
 TO_BROWSER, FROM_BROWSER = 3, 4
 PIECE = 1 << 20
-MOST_SECONDS = 600.0
+# How long the browser may take to reply, or a page to show something: more than ten times what it takes on a slow host.
+MOST_SECONDS = 600
 PAUSE = 0.02
 KEYS = {
     "ArrowLeft": 37, "ArrowUp": 38, "ArrowRight": 39, "ArrowDown": 40, "Home": 36, "End": 35, "Enter": 13, "Tab": 9,
@@ -108,7 +109,7 @@ class Browser:
             ready, _, _ = select.select([self.back], [], [], max(0.0, until - time.monotonic()))
             piece = os.read(self.back, PIECE) if ready else b""
             if not piece:
-                raise BrowserFailed("the browser ended" if ready else "the browser did not reply in time")
+                raise BrowserFailed("it ended" if ready else f"no answer in {MOST_SECONDS} seconds")
             self.read += piece
         one, _, self.read = self.read.partition(b"\0")
         told: dict[str, Any] = json.loads(one)
@@ -157,7 +158,7 @@ class Browser:
         until = time.monotonic() + MOST_SECONDS
         while not self.run(condition):
             if time.monotonic() > until:
-                raise BrowserFailed(f"never true: {condition}")
+                raise BrowserFailed(f"no answer in {MOST_SECONDS} seconds: {condition}")
             time.sleep(PAUSE)
 
     def go(self, url: str, condition: str) -> None:

@@ -13,10 +13,11 @@ SEARCHED = 700
 MOST_VERTICES = 65535
 ALL_FILES = 100000
 LONG = 20000
-# A move over 196,605 events is done in slices of at most so many events, between which frames are drawn, and what it
-# passed goes to the worker in pieces of at most so many lines. How long it takes is not tested.
+# A move over 196,605 events is done in slices of at most so many events, between which the page does what else there is
+# to do, and what it passed goes to the worker in pieces of at most so many lines. How long it takes is not tested, nor
+# how many frames a busy host draws meanwhile.
 MOST_EVENTS, MOST_LINES = 500, 5000
-LEAST_FRAMES = 5
+LEAST_TURNS = 5
 
 
 def merge_of(inputs: list[int]) -> str:
@@ -169,28 +170,68 @@ def steps(page: Page, what: str, names: list[str]) -> None:
     page.measure(f"{what}, until what changed is shown", shown)
 
 
+# Holds back a search until its worker is asked for a look, so that both are there at once, however busy the host is;
+# and keeps in which order that worker answers.
+ORDER = """(() => {
+  const post = Worker.prototype.postMessage;
+  const calls = new Map();
+  let held = null;
+  globalThis.llbmAnswered = [];
+  Worker.prototype.postMessage = function ordered(data, ...more) {
+    if (data?.call === 'search') {
+      this.addEventListener('message', ({ data: { id } }) => {
+        if (calls.has(id)) globalThis.llbmAnswered.push(calls.get(id));
+      });
+      held = { worker: this, data };
+      return;
+    }
+    if (held?.worker === this) {
+      for (const one of [held.data, data]) calls.set(one.id, one.call);
+      post.call(this, held.data);
+      held = null;
+    }
+    post.call(this, data, ...more);
+  };
+})()"""
+
+
 def nothing_waits_for_a_search(page: Page) -> None:
-    """Searches the 2,109 events of 703 vertices, and steps meanwhile: what a step changed is shown at once."""
+    """Searches the 2,109 events of 703 vertices, and steps meanwhile: what a step changed is shown before it ends."""
     page.load()
     page.give_file("many.text", many(SEARCHED).encode(), "#definition-file")
     page.browser.wait("definition.value !== ''")
     page.click("open-now")
+    page.click("next")
+    page.run(ORDER)
     page.run("document.getElementById('search').value = '/698'")
     page.run("document.querySelector('#search-form button').click()")
-    for _ in range(2):
-        page.click("next")
+    same(page.text("found-said"), "searching …", "what is said first")
+    page.click("next")
     same(page.changes(), ["added /0"], "what a step changed")
-    same(page.text("found-said"), "searching …", "the search meanwhile")
     page.browser.wait("document.querySelectorAll('#found button').length > 0")
+    same(page.run("globalThis.llbmAnswered"), ["look", "search"], "what the worker answered")
     found = page.run("document.querySelector('#found button').textContent")
     check(found.startswith("added /698: event "), found)
 
 
+# Begins a move, and stops it as soon as the page lets it be stopped.
+STOPPED = """new Promise((done) => {
+  const stop = document.getElementById('stop');
+  const seen = new MutationObserver(() => {
+    if (stop.hidden) return;
+    seen.disconnect();
+    stop.click();
+    done();
+  });
+  seen.observe(stop, { attributes: true, attributeFilter: ['hidden'] });
+  document.getElementById('go').click();
+})"""
+
+
 def a_long_move_stops(page: Page) -> None:
     """Begins a move over all events, and stops it: the session is where it was stopped, and can step there."""
-    page.run("document.getElementById('go').click()")
-    page.browser.wait("!document.getElementById('stop').hidden")
-    page.click("stop")
+    page.run(STOPPED)
+    page.settle()
     place = page.place()[0]
     check(0 < place < 3 * MOST_VERTICES, f"a move that was stopped is at {place}")
     page.click("back")
@@ -209,12 +250,21 @@ COUNT = """(() => {
 })()"""
 
 
+# Counts what else the page did while a move went on.
+TURNS = """(() => {
+  globalThis.llbmTurns = 0;
+  const stop = document.getElementById('stop');
+  globalThis.llbmTimer ??= setInterval(() => { globalThis.llbmTurns += Number(!stop.hidden); });
+})()"""
+
+
 def moved(page: Page, what: str, name: str, place: tuple[int, int]) -> None:
-    """Presses a button, waits until the move ends at a place, and wants short slices and frames meanwhile."""
+    """Presses a button, waits until the move ends at a place, and wants short slices and other turns meanwhile."""
     begin = page.place()[0]
-    page.run("globalThis.llbmLongest = globalThis.llbmFrames = 0")
+    page.run("globalThis.llbmLongest = 0")
     page.run(COUNT)
     page.run(WATCH)
+    page.run(TURNS)
     start = time.monotonic()
     page.click(name)
     page.measure(what, [1000 * (time.monotonic() - start)])
@@ -224,8 +274,8 @@ def moved(page: Page, what: str, name: str, place: tuple[int, int]) -> None:
     check(max(slices) <= MOST_EVENTS, f"a slice of {max(slices)} events")
     check(sum(slices) >= abs(place[0] - begin), f"{sum(slices)} events in all slices")
     check(max(pieces) <= MOST_LINES, f"a piece of {max(pieces)} lines")
-    frames = int(page.run("globalThis.llbmFrames"))
-    check(frames >= LEAST_FRAMES, f"{frames} frames were drawn meanwhile")
+    turns = int(page.run("globalThis.llbmTurns"))
+    check(turns >= LEAST_TURNS, f"{turns} other turns meanwhile")
 
 
 def as_many_vertices_as_there_can_be(page: Page) -> None:
@@ -312,12 +362,11 @@ def a_hundred_thousand_files(page: Page) -> None:
     same(page.browser.faults, [], "faults of the page's code")
 
 
-# Keeps the longest time between two frames, and how many there are.
+# Keeps the longest time between two frames.
 WATCH = """(() => {
   let last = performance.now();
   const frame = (now) => {
     globalThis.llbmLongest = Math.max(globalThis.llbmLongest, now - last);
-    globalThis.llbmFrames += 1;
     last = now;
     requestAnimationFrame(frame);
   };

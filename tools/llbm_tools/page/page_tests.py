@@ -8,8 +8,9 @@ answer of its session is compared with that of `llbm step` to the same line. --p
 views there, with --all-pictures those of start, failure, a wide graph and two orders, wide, narrow, light and dark.
 
 Out: on standard output a line for each test that failed, measured times, and at the end `N passed, M failed, K
-skipped`. A test in the browser that fails is tried once more, and a line says so. Where Node, a browser, or the page is
-missing, the tests that need it are skipped, and a line says why.
+skipped`. A test has failed with the words `no answer` if the browser did not show something in time: that says nothing
+of the page, only that the host was too busy or that the browser hangs. Where Node, a browser, or the page is missing,
+the tests that need it are skipped, and a line says why.
 
 Exit status: 0 all tests pass; 1 some fail; 2 the command line is refused, or there is no program; 3 a read or a write
 failed, or Node or the browser did.
@@ -120,7 +121,7 @@ def result(work: Callable[[], None]) -> str:
 
 
 def result_in_browser(page: Page, case: Callable[[Page], None]) -> str:
-    """Does a test in the browser, a second time if it fails, since it waits for pictures; returns what is wrong."""
+    """Does a test in the browser; returns what is wrong."""
 
     def work() -> None:
         """Does the test, and wants no exception of the page's code and no error in its console that is not awaited."""
@@ -131,11 +132,7 @@ def result_in_browser(page: Page, case: Callable[[Page], None]) -> str:
         found = [fault for fault in page.browser.faults if not any(one in fault for one in page.awaited)]
         same(found, [], "faults of the page's code")
 
-    wrong = result(work)
-    if wrong:
-        print(common.printable(f"tried again: {case.__name__}: {wrong}")[:1000], flush=True)
-        wrong = result(work)
-    return wrong
+    return result(work)
 
 
 def tests(options: argparse.Namespace) -> int:

@@ -37,11 +37,11 @@ def all_files() -> list[str]:
 
 
 class Copy:
-    """The copy in a folder; `settings` is the environment of commands in it, which keep their caches in the folder."""
+    """The copy in a folder; by `settings` commands in it keep their caches in the folder."""
 
     def __init__(self, folder: str, program: str) -> None:
         self.folder = os.path.join(folder, "llbm")
-        self.settings = {**os.environ, "XDG_CACHE_HOME": os.path.join(folder, "cache")}
+        self.settings = {"XDG_CACHE_HOME": os.path.join(folder, "cache")}
         files = git("ls-files", "--cached", "--others", "--exclude-standard")
         for path in all_files() if files is None else files:
             self.add(path)

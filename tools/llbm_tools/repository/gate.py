@@ -58,7 +58,7 @@ EXAMPLES = ("examples/README.md", "examples/from-buildkit/README.md")
 LIMITS = "tests/limits"
 TESTED = ("llb_refusals", "llb_examples", "llbm")
 # How many seconds each test may take that `rt try` runs: more than ten times what any takes on a slow host.
-GUARD = 6000
+GUARD = 12000
 # How many cases of `dev/dev fuzz` are run: about a minute by the proved program, and less by the one without proof.
 CASES = 8000
 FEWER = 500

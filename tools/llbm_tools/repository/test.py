@@ -35,6 +35,7 @@ import unittest
 from collections.abc import Iterator
 from types import TracebackType
 from typing import NamedTuple, TextIO, cast
+from unittest import mock
 
 from llbm_tools import common, paths, streams
 from llbm_tools.command_line import Parser
@@ -191,11 +192,24 @@ def grouped(suite: unittest.TestSuite) -> list[unittest.TestSuite]:
     return found
 
 
+@contextlib.contextmanager
+def temporary_folder() -> Iterator[None]:
+    """Makes a folder for temporary files, which all users can write, as /tmp. There a build says what another left."""
+    with (
+        tempfile.TemporaryDirectory(prefix="tools-test-", ignore_cleanup_errors=True) as folder,
+        mock.patch.dict(os.environ, TMPDIR=folder),
+        mock.patch.object(tempfile, "tempdir", folder),
+    ):
+        os.chmod(folder, 0o1777)
+        yield
+
+
 def run_group(number: int) -> GroupResult:
-    """Runs a group of tests."""
+    """Runs a group of tests, which have temporary files of their own."""
     base.runs = 0
     out = io.StringIO()
-    result = cast(Timed, unittest.TextTestRunner(out, verbosity=0, resultclass=Timed).run(groups[number]))
+    with temporary_folder():
+        result = cast(Timed, unittest.TextTestRunner(out, verbosity=0, resultclass=Timed).run(groups[number]))
     output = "" if result.wasSuccessful() else out.getvalue().rpartition("-" * 70)[0]
     output += "".join(f"{line}\n" for line in result.silent)
     left_out = collections.Counter(cause for _, cause in result.skipped)

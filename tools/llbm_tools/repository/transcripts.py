@@ -131,11 +131,14 @@ def path_with(folder: str, program: str) -> dict[str, str]:
     """Puts the program into a folder, as `llbm`, and llbm-tools; returns the environment with it first on the path.
 
     The program is named there, too: of a named one no tool says whether it is proved, so all of them print the same.
+    Temporary files are in the folder too, so that none says what a build left elsewhere that was killed.
     """
-    os.makedirs(folder)
+    temporary = os.path.join(folder, "temporary")
+    os.makedirs(temporary)
     for place in (program, str(ROOT / USERS_DOOR)):
         os.symlink(place, os.path.join(folder, "llbm" if place is program else USERS_DOOR))
-    return {**os.environ, "LLBM": program, "PATH": os.pathsep.join([folder, os.environ.get("PATH", os.defpath)])}
+    path = os.pathsep.join([folder, os.environ.get("PATH", os.defpath)])
+    return {**os.environ, "LLBM": program, "PATH": path, "TMPDIR": temporary}
 
 
 def run_test(page: Page, settings: dict[str, str], is_unproved: bool) -> Result:
@@ -151,7 +154,7 @@ def run_pages(pages: list[Page], copy: Copy, settings: dict[str, str]) -> Result
     """Runs the commands of pages, in a copy of the repository whose programs come first on the path."""
     result = Result()
     path = os.pathsep.join([copy.folder, settings["PATH"]])
-    known = {**copy.settings, "PATH": path, "LLBM": settings["LLBM"]}
+    known = {**settings, **copy.settings, "PATH": path}
     for page, shown in ((page, shown) for page in pages for shown in page.shown):
         if LEFT_OUT.search(shown.commands):
             result.leave(f"{page.path}:{shown.number}: left out, since it compiles or runs the gate")

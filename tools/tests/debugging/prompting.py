@@ -13,8 +13,6 @@ from tests.base import ROOT, Folder, run
 TOUR, TREE = str(ROOT / "examples/tour.definition"), f"source={ROOT / 'examples/tour.tree'}"
 FAILURE, EMPTY = str(ROOT / "examples/failure/definition.text"), f"empty={ROOT / 'examples/failure/empty.tree'}"
 DOCKERFILE = ROOT / "examples/from-buildkit/dockerfile"
-# No run of a prompt takes as long: what takes longer has no answer.
-GUARD = 600
 
 
 class Prompt(Folder):
@@ -216,7 +214,7 @@ class Terminals(Prompt):
         os.write(master, b"next\n")
         self.read_to(master, b"local://source\r\n(llbm) ")
         os.write(master, b"quit\n")
-        self.assertEqual(child.wait(GUARD), 0)
+        self.assertEqual(child.wait(base.GUARD), 0)
 
     @unittest.skipUnless(importlib.util.find_spec("readline"), "there is no readline")
     def test_commands_and_paths_are_completed(self):
@@ -228,11 +226,12 @@ class Terminals(Prompt):
         os.write(master, b"tree 0.0:/te\th\t\n")
         self.read_to(master, b"tree 0.0:/text/head")
         os.write(master, b"quit\n")
-        self.assertEqual(child.wait(GUARD), 0)
+        self.assertEqual(child.wait(base.GUARD), 0)
 
     def read_to(self, master, end):
         """Reads what the terminal shows up to these bytes."""
         shown = b""
         while end not in shown:
-            self.assertTrue(select.select([master], [], [], GUARD)[0], f"no answer after {shown!r}")
+            if not select.select([master], [], [], base.GUARD)[0]:
+                raise base.NoAnswer(f"waited {base.GUARD} s for {end!r} after {shown!r}")
             shown += os.read(master, 4096)

@@ -5,11 +5,10 @@ import shutil
 import subprocess
 import unittest
 
+from tests import base
 from tests.base import ROOT
 
 PAGE = ROOT / "page"
-# No part takes as long: what takes longer has no answer.
-GUARD = 600
 
 
 class Parts(unittest.TestCase):
@@ -24,7 +23,7 @@ class Parts(unittest.TestCase):
         script = f"import * as m from {json.dumps((PAGE / module).as_uri())};\n"
         script += f"Promise.resolve({text}).then(value => process.stdout.write(JSON.stringify(value)));"
         command = ["node", "--input-type=module", "-e", script]
-        done = subprocess.run(command, capture_output=True, text=True, timeout=GUARD)
+        done = subprocess.run(command, capture_output=True, text=True, timeout=base.GUARD)
         self.assertEqual((done.returncode, done.stderr), (0, ""))
         return json.loads(done.stdout)
 

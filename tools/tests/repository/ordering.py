@@ -8,6 +8,7 @@ import shutil
 import signal
 import subprocess
 import sys
+import tempfile
 import unittest
 from concurrent.futures.process import BrokenProcessPool
 from unittest import mock
@@ -18,9 +19,9 @@ from tests import base
 # Makes files in a folder until it is killed, also where the folder is removed.
 WRITES = """import contextlib, itertools, os, sys
 for number in itertools.count():
-    os.makedirs(sys.argv[1], exist_ok=True)
-    with contextlib.suppress(OSError), open(f"{sys.argv[1]}/{number % 100}", "w"):
-        pass
+    with contextlib.suppress(OSError):
+        os.makedirs(sys.argv[1], exist_ok=True)
+        open(f"{sys.argv[1]}/{number % 100}", "w").close()
     if number == 100:
         print("writes", flush=True)
 """
@@ -51,6 +52,10 @@ class Sample(unittest.TestCase):
 
     def dies(self):
         os.kill(os.getpid(), signal.SIGKILL)
+
+    def leaves_a_folder(self):
+        self.assertEqual(os.listdir(os.environ["TMPDIR"]), [])
+        self.assertEqual(os.path.dirname(tempfile.mkdtemp()), os.environ["TMPDIR"])
 
 
 class Run(unittest.TestCase):
@@ -93,6 +98,12 @@ class Run(unittest.TestCase):
     def test_the_processes_end_whatever_a_test_leaves(self):
         results = self.run_in_two(*["ignores_a_signal"] * 6)
         self.assertEqual([one.counts for one in results], [(1, 0, 0)] * 6)
+
+    def test_what_a_test_leaves_is_not_seen_by_another_and_is_removed(self):
+        before = os.listdir(tempfile.gettempdir())
+        results = self.run_in_two(*["leaves_a_folder"] * 4)
+        self.assertEqual([one.counts for one in results], [(1, 0, 0)] * 4)
+        self.assertEqual(os.listdir(tempfile.gettempdir()), before)
 
     def test_a_process_that_dies_is_an_error(self):
         with self.assertRaises(BrokenProcessPool):
