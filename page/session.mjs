@@ -4,7 +4,7 @@
  * docs/FORMATS.md, "A stepping session", has the lines that a session takes and what it answers.
  */
 
-import { entriesOf, keepSaid, localsOf, saidOf, verticesOf } from './definition.mjs';
+import { keepSaid, localsOf, readingEntries, saidOf, verticesOf } from './definition.mjs';
 import { diceOf, shuffled } from './seeded_order.mjs';
 import { STATUS } from './machine.mjs';
 import { graphOf } from './record.mjs';
@@ -65,9 +65,9 @@ function plannedBy(machine, definition) {
   return planned.get(definition);
 }
 
-/** Returns what a definition that the machine takes says of its vertices. */
-export function entriesBy(machine, definition) {
-  const { rows } = entriesOf(machine, definition);
+/** Returns what a definition that the machine takes says of its vertices, when the generator ends. */
+export function* readingVertices(machine, definition) {
+  const { rows } = yield* readingEntries(machine, definition);
   return [...plannedBy(machine, definition).rows].map((row) => rows[row]);
 }
 
@@ -75,7 +75,7 @@ export function entriesBy(machine, definition) {
 export function readDefinition(machine, bytes, isWritten) {
   const definition = isWritten ? assembled(machine, bytes) : bytes;
   const { rows, fault } = plannedBy(machine, definition);
-  const names = localsOf(entriesBy(machine, definition));
+  const names = localsOf(atOnce(readingVertices(machine, definition)));
   return { definition, fault, rows, names, said: saidOf(machine, definition) };
 }
 

@@ -4,7 +4,7 @@ import { Breaks } from './breaks.mjs';
 import { Calls } from './calls.mjs';
 import { Ways } from './event_tree.mjs';
 import { unpacking } from './graph_arrays.mjs';
-import { entriesBy } from './session.mjs';
+import { readingVertices } from './session.mjs';
 import { Statuses } from './statuses.mjs';
 import { inTurns } from './turns.mjs';
 
@@ -38,7 +38,8 @@ export class SessionClient {
       const asked = { definition, locals, workers, lines, record, steps, stopsAtFailures, isKept };
       const found = await calls.call('open', { module: machine.module, ...asked });
       const graph = await inTurns(unpacking(found.graph));
-      const session = new SessionClient(calls, given, { ...found, graph, entries: entriesBy(machine, definition) });
+      const entries = await inTurns(readingVertices(machine, definition));
+      const session = new SessionClient(calls, given, { ...found, graph, entries });
       session.breaks.fail = stopsAtFailures;
       if (record) await inTurns(session.ways.laying(record));
       // Whoever compares answers with those of `llbm step` needs those of the worker.
@@ -68,6 +69,7 @@ export class SessionClient {
     const onPart = (news) => {
       this.take(news);
       onSlice();
+      this.tell('goOn');
     };
     const { value, fault, news, statuses } = await this.calls.inParts(onPart, move, ...args);
     this.take(news);

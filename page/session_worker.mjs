@@ -4,7 +4,6 @@ import { answer } from './answering.mjs';
 import { packed } from './graph_arrays.mjs';
 import { Machine } from './machine.mjs';
 import { Session } from './session.mjs';
-import { nextTurn } from './turns.mjs';
 
 // So many events, or milliseconds, are a slice.
 const MOST_EVENTS = 500;
@@ -14,6 +13,7 @@ let session = null;
 // The place that the page knows.
 let known = null;
 let isStopped = false;
+let goOn = null;
 
 // What happened since the page was last told: how many events back, and the lines of those after them.
 function news() {
@@ -43,7 +43,8 @@ async function inSlices(moves, say) {
     for (let count = 1; !one.done && count < MOST_EVENTS && performance.now() < end; count += 1) one = moves.next();
     if (one.done) return one.value;
     say(news());
-    await nextTurn();
+    // The page says when it has taken that: so it is never far behind, and a stop is one.
+    await new Promise((done) => { goOn = done; });
     if (isStopped) return 'stopped';
   }
 }
@@ -82,6 +83,7 @@ function opened({ module, definition, locals, workers, lines, record, steps, sto
 const CALLS = {
   open: opened,
   stop: () => { isStopped = true; },
+  goOn: () => goOn?.(),
   setBreak: (vertex, kind) => session.breaks.set(vertex, kind),
   setBreakAtFailures: (is) => { session.breaks.fail = is; },
   transcript: () => globalThis.llbmTranscript ?? [],

@@ -7,7 +7,7 @@ import io
 import tarfile
 
 from llbm_tools.page import (
-    assets, contrast, control_cases, editing, foreign, graphs, large, module_cases, orders, proof, served,
+    assets, contrast, control_cases, editing, foreign, graphs, hostile, large, module_cases, orders, proof, served,
     statement_cases, step_view_cases,
 )
 from llbm_tools.page.driver import NARROW, WIDE, Page, check, same
@@ -371,5 +371,5 @@ CASES = (
     refused_files, a_source_without_a_tree, what_changed, caches_and_who_holds_them, sharing, the_keyboard,
     names_for_screen_readers, wide_and_narrow, a_trap, *statement_cases.CASES, *control_cases.CASES,
     contrast.contrast_of_all_texts, *foreign.CASES, *served.CASES, *step_view_cases.CASES, *proof.CASES, *orders.CASES,
-    *graphs.CASES, *editing.CASES, *large.CASES,
+    *graphs.CASES, *editing.CASES, *hostile.CASES, *large.CASES,
 )  # fmt: skip
