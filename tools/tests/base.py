@@ -46,7 +46,7 @@ if sys.argv[1:2] == ["show"] and sys.argv[2:3] in (["--plan"], ["--matches"], ["
 
 # How many seconds a program that a test waits for may take: more than ten times what any takes on a slow host. No test
 # asserts how long something takes; where this is over, the test has got no answer.
-GUARD = 600
+GUARD = 3000
 PAUSE = 0.02
 
 runs = 0

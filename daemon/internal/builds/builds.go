@@ -13,7 +13,9 @@ import (
 	spb "github.com/moby/buildkit/sourcepolicy/pb"
 	"google.golang.org/grpc/codes"
 	"google.golang.org/grpc/status"
+	"llbm/daemon/internal/machine"
 	"llbm/daemon/internal/results"
+	"llbm/daemon/internal/sessions"
 	"llbm/daemon/internal/sources"
 	"llbm/daemon/internal/standins"
 )
@@ -32,6 +34,15 @@ const (
 	mostOfAll   = 1 << 30
 )
 
+// A Shared is what all builds share.
+type Shared struct {
+	Program  *machine.Program // llbm
+	Rules    *machine.Ahead   // llbm-rules, which compares, or nil
+	Sessions *sessions.Sessions
+	Keeper   *sources.Keeper
+	Platform pb.Platform // the worker's
+}
+
 // A Build is one call of Solve, up to a short time after its end.
 type Build struct {
 	Ref, Session string
@@ -40,6 +51,7 @@ type Build struct {
 	Events       *Events
 	Returned     chan *gateway.ReturnRequest
 	Shown        *Shown
+	Shared       *Shared
 	Sources      sources.Once
 	Written      atomic.Int64 // how many bytes llbm wrote
 	Strict       bool         // whether it fails where BuildKit would make something else; it is set before what is given
@@ -167,6 +179,7 @@ func (b *Build) EnterFrontend() (leave func(), err error) {
 
 // Builds are those that run, at most some of them, and those that have ended a short time ago.
 type Builds struct {
+	Shared  *Shared // what they share; it is set before the first one starts
 	most    int
 	mu      sync.Mutex
 	added   chan struct{} // is closed when a build is added
@@ -202,8 +215,8 @@ func (bs *Builds) Start(ctx context.Context, user uint32, ref, session string) (
 		return nil, status.Errorf(codes.ResourceExhausted, "%d builds run, and no more may", bs.most)
 	}
 	b := &Build{
-		Ref: ref, Session: session, User: user, Context: ctx, Returned: make(chan *gateway.ReturnRequest, 1), Shown: newShown(), all: bs,
-		given: make(chan struct{}), results: map[string]*results.Lazy{},
+		Ref: ref, Session: session, User: user, Context: ctx, Returned: make(chan *gateway.ReturnRequest, 1), Shown: newShown(), Shared: bs.Shared,
+		all: bs, given: make(chan struct{}), results: map[string]*results.Lazy{},
 	}
 	b.Events = newEvents(b.Hold)
 	bs.byRef[ref] = b

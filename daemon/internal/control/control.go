@@ -3,7 +3,6 @@ package control
 
 import (
 	"context"
-	"strings"
 	"time"
 
 	controlapi "github.com/moby/buildkit/api/services/control"
@@ -14,12 +13,9 @@ import (
 	"google.golang.org/grpc/metadata"
 	"google.golang.org/grpc/status"
 	"llbm/daemon/internal/builds"
-	"llbm/daemon/internal/contents"
 	"llbm/daemon/internal/gateway"
 	"llbm/daemon/internal/history"
-	"llbm/daemon/internal/messages"
 	"llbm/daemon/internal/peers"
-	"llbm/daemon/internal/sessions"
 	"llbm/daemon/internal/solver"
 	"llbm/daemon/internal/sources"
 )
@@ -35,18 +31,23 @@ func Worker(version string) *apitypes.WorkerRecord {
 	}
 }
 
+// mostHistory bounds the records of builds that have ended.
+const mostHistory = 64
+
 // A Control serves clients.
 type Control struct {
 	controlapi.UnimplementedControlServer
 	Builds    *builds.Builds
-	Sessions  *sessions.Sessions
 	Solver    *solver.Solver
 	Frontends gateway.Frontends
-	Keeper    *sources.Keeper
-	Store     *contents.Store
 	History   *history.History
 	Workers   []*apitypes.WorkerRecord
 	Idle      time.Duration // how long a client may take nothing of a result
+}
+
+// New returns a service over builds and their solver, with an empty history. A client may take nothing of a result for an idle time.
+func New(all *builds.Builds, solver *solver.Solver, frontends gateway.Frontends, workers []*apitypes.WorkerRecord, idle time.Duration) *Control {
+	return &Control{Builds: all, Solver: solver, Frontends: frontends, History: history.New(mostHistory), Workers: workers, Idle: idle}
 }
 
 func userOf(ctx context.Context) (uint32, error) {
@@ -97,7 +98,7 @@ func (c *Control) DiskUsage(ctx context.Context, req *controlapi.DiskUsageReques
 		return nil, err
 	}
 	out := &controlapi.DiskUsageResponse{}
-	for _, one := range c.Keeper.Usage(user) {
+	for _, one := range c.Builds.Shared.Keeper.Usage(user) {
 		out.Record = append(out.Record, record(one))
 	}
 	return out, nil
@@ -112,7 +113,7 @@ func (c *Control) Prune(req *controlapi.PruneRequest, stream controlapi.Control_
 	if err := noFilters(req.Filter); err != nil {
 		return err
 	}
-	for _, one := range c.Keeper.Prune(user, time.Now().Add(-time.Duration(req.KeepDuration)), req.KeepBytes) {
+	for _, one := range c.Builds.Shared.Keeper.Prune(user, time.Now().Add(-time.Duration(req.KeepDuration)), req.KeepBytes) {
 		if err := stream.Send(record(one)); err != nil {
 			return err
 		}
@@ -137,7 +138,7 @@ func (c *Control) Session(stream controlapi.Control_SessionServer) error {
 		case <-ctx.Done():
 		}
 	}()
-	return c.Sessions.Serve(ctx, user, conn, headers)
+	return c.Builds.Shared.Sessions.Serve(ctx, user, conn, headers)
 }
 
 // Status follows a build's progress.
@@ -182,15 +183,4 @@ func (c *Control) UpdateBuildHistory(ctx context.Context, req *controlapi.Update
 		return nil, err
 	}
 	return &controlapi.UpdateBuildHistoryResponse{}, c.History.Update(user, req)
-}
-
-// answer are the parts of metadata that clients are told of.
-func answer(metadata map[string][]byte) map[string]string {
-	out := map[string]string{}
-	for k, v := range metadata {
-		if strings.HasPrefix(k, "frontend.") {
-			out[messages.Text(k)] = messages.Text(string(v))
-		}
-	}
-	return out
 }

@@ -2,31 +2,24 @@ package control
 
 import (
 	"context"
-	"crypto/rand"
-	"errors"
 	"strconv"
-	"time"
 	"unicode/utf8"
 
 	controlapi "github.com/moby/buildkit/api/services/control"
 	spb "github.com/moby/buildkit/sourcepolicy/pb"
-	digest "github.com/opencontainers/go-digest"
 	"google.golang.org/grpc/codes"
 	"google.golang.org/grpc/status"
 	"llbm/daemon/internal/builds"
 	"llbm/daemon/internal/exports"
 	"llbm/daemon/internal/gateway"
-	"llbm/daemon/internal/messages"
-	"llbm/daemon/internal/solver"
-	"llbm/daemon/internal/unknownfields"
+	"llbm/daemon/internal/replacements"
+	"llbm/daemon/internal/requests"
 )
 
 const keyEpoch = "source-date-epoch"
 
 // mostOfRef bounds the names that clients give their builds.
 const mostOfRef = 256
-
-var errIdle = errors.New("nothing was taken")
 
 // Solve does one build. The build is there from the first moment, so that a refusal reaches all who wait for it.
 func (c *Control) Solve(ctx context.Context, req *controlapi.SolveRequest) (*controlapi.SolveResponse, error) {
@@ -55,7 +48,7 @@ func (c *Control) Solve(ctx context.Context, req *controlapi.SolveRequest) (*con
 	}
 	response, err := solve(ctx, b, req)
 	if err != nil && b.Session != "" {
-		c.Sessions.Settle(ctx, user, b.Session)
+		c.Builds.Shared.Sessions.Settle(ctx, user, b.Session)
 	}
 	return response, err
 }
@@ -89,10 +82,10 @@ func refused(req *controlapi.SolveRequest) error {
 	if len(req.Entitlements) > 0 {
 		return status.Errorf(codes.PermissionDenied, "entitlement %s is not allowed", req.Entitlements[0])
 	}
-	if err := solver.CheckPolicy(req.SourcePolicy); err != nil {
+	if err := requests.CheckPolicy(req.SourcePolicy); err != nil {
 		return err
 	}
-	return unknownfields.Refuse("SolveRequest", req.XXX_unrecognized)
+	return requests.CheckFields("SolveRequest", req.XXX_unrecognized)
 }
 
 // warnOfCaches warns of caches that the build was asked to use, and has no use for.
@@ -125,40 +118,18 @@ func isSet(options map[string]string, key string) (bool, error) {
 	return found, nil
 }
 
-func (c *Control) solve(ctx context.Context, b *builds.Build, req *controlapi.SolveRequest) (_ *controlapi.SolveResponse, err error) {
+func (c *Control) solve(ctx context.Context, b *builds.Build, req *controlapi.SolveRequest) (*controlapi.SolveResponse, error) {
 	if err := refused(req); err != nil {
 		return nil, err
 	}
 	warnOfCaches(b, req.Cache)
-	var exporters []*exports.Exporter
-	for i, asked := range req.Exporters {
-		e, err := exports.New(i, asked, c.Store)
-		if err != nil {
-			return nil, err
-		}
-		exporters = append(exporters, e)
-	}
-	asked, err := c.provenance(req)
+	exporters, err := exports.Asked(req, c.Builds.Shared.Keeper.Store(), c.Builds.Shared.Platform)
 	if err != nil {
 		return nil, err
 	}
-	for _, e := range exporters {
-		e.Provenance = asked
-	}
-	var policies []*spb.Policy
-	if req.SourcePolicy != nil {
-		policies = append(policies, req.SourcePolicy)
-	}
-	if b.Strict, err = isSet(req.FrontendAttrs, keyStrict); err != nil {
+	if err := give(ctx, b, req); err != nil {
 		return nil, err
 	}
-	if b.Layers, err = isSet(req.FrontendAttrs, keyLayers); err != nil {
-		return nil, err
-	}
-	if err := c.Solver.Ask(ctx, b, req.FrontendAttrs); err != nil {
-		return nil, err
-	}
-	b.Give(req.FrontendInputs, policies)
 	returned, err := c.result(ctx, b, req)
 	if err != nil {
 		return nil, err
@@ -167,9 +138,9 @@ func (c *Control) solve(ctx context.Context, b *builds.Build, req *controlapi.So
 	if err != nil {
 		return nil, err
 	}
-	out := answer(results.Metadata)
+	out := results.Answer()
 	for _, e := range exporters {
-		told, err := c.export(ctx, b, e, results)
+		told, err := e.Show(ctx, b, results, c.Idle)
 		if err != nil {
 			return nil, err
 		}
@@ -178,6 +149,26 @@ func (c *Control) solve(ctx context.Context, b *builds.Build, req *controlapi.So
 		}
 	}
 	return &controlapi.SolveResponse{ExporterResponse: out}, nil
+}
+
+// give gives a build what it was asked for with.
+func give(ctx context.Context, b *builds.Build, req *controlapi.SolveRequest) error {
+	var policies []*spb.Policy
+	if req.SourcePolicy != nil {
+		policies = append(policies, req.SourcePolicy)
+	}
+	var err error
+	if b.Strict, err = isSet(req.FrontendAttrs, keyStrict); err != nil {
+		return err
+	}
+	if b.Layers, err = isSet(req.FrontendAttrs, keyLayers); err != nil {
+		return err
+	}
+	if err := replacements.Ask(ctx, b, req.FrontendAttrs); err != nil {
+		return err
+	}
+	b.Give(req.FrontendInputs, policies)
+	return nil
 }
 
 // result asks a frontend, or takes the definition, or waits for the frontend in the client.
@@ -190,46 +181,4 @@ func (c *Control) result(ctx context.Context, b *builds.Build, req *controlapi.S
 	default:
 		return gateway.Await(ctx, b, b.Returned)
 	}
-}
-
-// export sends the results, and shows this as a vertex.
-func (c *Control) export(ctx context.Context, b *builds.Build, e *exports.Exporter, results *exports.Results) (map[string]string, error) {
-	caller, err := c.Sessions.Get(ctx, b.User, b.Session)
-	if err != nil {
-		return nil, err
-	}
-	started := time.Now()
-	vertex := controlapi.Vertex{Digest: digest.FromString(rand.Text()), Name: e.Name(), Started: &started}
-	show := func(completed *time.Time, err error) {
-		v := vertex
-		if v.Completed = completed; err != nil {
-			v.Error = messages.Of(err)
-		}
-		b.Events.Add(&controlapi.StatusResponse{Vertexes: []*controlapi.Vertex{&v}})
-	}
-	show(nil, nil)
-	ctx, cancel := context.WithCancelCause(ctx)
-	defer cancel(nil)
-	idle := time.AfterFunc(c.Idle, func() { cancel(errIdle) })
-	defer idle.Stop()
-	moved := func() { idle.Reset(c.Idle) }
-	warn := func(short string) {
-		b.Events.Add(&controlapi.StatusResponse{Warnings: []*controlapi.VertexWarning{{Vertex: vertex.Digest, Level: 1, Short: []byte(short)}}})
-	}
-	var last time.Time
-	told, err := e.Export(ctx, caller, results, exports.Watch{Moved: moved, Warn: warn, Sent: func(n int64) {
-		moved()
-		if now := time.Now(); now.Sub(last) > 100*time.Millisecond {
-			last = now
-			b.Events.Add(&controlapi.StatusResponse{Statuses: []*controlapi.VertexStatus{{
-				ID: "copying files", Vertex: vertex.Digest, Current: n, Timestamp: now, Started: &started,
-			}}})
-		}
-	}})
-	if errors.Is(context.Cause(ctx), errIdle) {
-		err = status.Errorf(codes.DeadlineExceeded, "%s: the client took nothing for %s", e.Name(), c.Idle)
-	}
-	ended := time.Now()
-	show(&ended, err)
-	return told, err
 }

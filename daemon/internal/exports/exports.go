@@ -15,6 +15,7 @@ import (
 	"github.com/moby/buildkit/exporter/containerimage/exptypes"
 	"github.com/moby/buildkit/session"
 	"github.com/moby/buildkit/session/filesync"
+	"github.com/moby/buildkit/solver/pb"
 	ocispecs "github.com/opencontainers/image-spec/specs-go/v1"
 	"github.com/tonistiigi/fsutil"
 	fstypes "github.com/tonistiigi/fsutil/types"
@@ -49,6 +50,26 @@ const (
 	keyEpoch = "source-date-epoch"
 	keySplit = "platform-split"
 )
+
+// Asked returns the exporters that a request asks for, with the provenance. Layers are in the store until they are sent.
+func Asked(req *controlapi.SolveRequest, store *contents.Store, worker pb.Platform) ([]*Exporter, error) {
+	var out []*Exporter
+	for i, asked := range req.Exporters {
+		e, err := New(i, asked, store)
+		if err != nil {
+			return nil, err
+		}
+		out = append(out, e)
+	}
+	asked, err := provenance.AskedBy(req.Frontend, req.FrontendAttrs, worker)
+	if err != nil {
+		return nil, err
+	}
+	for _, e := range out {
+		e.Provenance = asked
+	}
+	return out, nil
+}
 
 // New reads the options of an exporter, and refuses what it can't do. Layers are in the store until they are sent.
 func New(number int, asked *controlapi.Exporter, store *contents.Store) (*Exporter, error) {

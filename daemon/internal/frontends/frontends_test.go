@@ -54,7 +54,7 @@ func program(t *testing.T, mode os.FileMode, text string) string {
 var environ = []string{"PATH=/usr/bin:/bin"}
 
 func TestWhatAFrontendLeavesIsKilledBeforeItsMessagesAreWaitedFor(t *testing.T) {
-	c, err := (&Frontends{}).start(context.Background(), program(t, 0o755, "echo said >&2\nsleep 1000 &\n"), environ)
+	c, err := (&Frontends{}).start(context.Background(), program(t, 0o755, "echo said >&2\nsleep 100000 &\n"), environ)
 	if err != nil {
 		t.Fatal(err)
 	}

@@ -19,11 +19,11 @@ import (
 	"google.golang.org/grpc/codes"
 	"google.golang.org/grpc/status"
 	"llbm/daemon/internal/builds"
-	"llbm/daemon/internal/images"
 	"llbm/daemon/internal/peers"
+	"llbm/daemon/internal/replacements"
+	"llbm/daemon/internal/requests"
 	"llbm/daemon/internal/results"
 	"llbm/daemon/internal/solver"
-	"llbm/daemon/internal/unknownfields"
 )
 
 // A Frontend is asked to solve a build.
@@ -108,7 +108,7 @@ func (g *Gateway) Solve(ctx context.Context, req *gatewaypb.SolveRequest) (*gate
 	switch {
 	case req.Frontend != "":
 		defer b.Free(req.Size())
-		if err := g.Solver.Ask(ctx, b, req.FrontendOpt); err != nil {
+		if err := replacements.Ask(ctx, b, req.FrontendOpt); err != nil {
 			return nil, err
 		}
 		r, err = g.Frontends.Run(ctx, b, Frontend{
@@ -138,11 +138,11 @@ func refused(req *gatewaypb.SolveRequest) error {
 		if policy == nil {
 			return status.Error(codes.InvalidArgument, "invalid nil source policy")
 		}
-		if err := solver.CheckPolicy(policy); err != nil {
+		if err := requests.CheckPolicy(policy); err != nil {
 			return err
 		}
 	}
-	return unknownfields.Refuse("SolveRequest", req.XXX_unrecognized)
+	return requests.CheckFields("SolveRequest", req.XXX_unrecognized)
 }
 
 func (g *Gateway) lazily(b *builds.Build, def *pb.Definition, policies []*spb.Policy) (*Returned, error) {
@@ -245,7 +245,7 @@ func (g *Gateway) ResolveImageConfig(ctx context.Context, req *gatewaypb.Resolve
 		return nil, status.Error(codes.InvalidArgument, imageutil.ResolveToNonImageError{Ref: req.Ref, Updated: source.Identifier}.Error())
 	}
 	_, ref, _ := strings.Cut(source.Identifier, "://")
-	return &gatewaypb.ResolveImageConfigResponse{Ref: ref, Digest: image.Digest, Config: image.Config}, nil
+	return &gatewaypb.ResolveImageConfigResponse{Ref: ref, Digest: image.Digest, Config: image.Text}, nil
 }
 
 // ResolveSourceMeta returns what is known of a source before it is read: the configuration of an image.
@@ -260,27 +260,23 @@ func (g *Gateway) ResolveSourceMeta(ctx context.Context, req *gatewaypb.ResolveS
 	}
 	out := &gatewaypb.ResolveSourceMetaResponse{Source: &source}
 	if image != nil {
-		out.Image = &gatewaypb.ResolveSourceImageResponse{Digest: image.Digest, Config: image.Config}
+		out.Image = &gatewaypb.ResolveSourceImageResponse{Digest: image.Digest, Config: image.Text}
 	}
 	return out, nil
 }
 
-// image returns the image of a source, of which nothing but the configuration is read.
-func (g *Gateway) image(ctx context.Context, source *pb.SourceOp, platform *pb.Platform, policies []*spb.Policy) (*images.Image, error) {
+// image returns what is known of the image of a source, of which nothing but the configuration is read.
+func (g *Gateway) image(ctx context.Context, source *pb.SourceOp, platform *pb.Platform, policies []*spb.Policy) (*replacements.Config, error) {
 	b, err := g.build(ctx)
 	if err != nil {
 		return nil, err
 	}
 	for _, policy := range policies {
-		if err := solver.CheckPolicy(policy); err != nil {
+		if err := requests.CheckPolicy(policy); err != nil {
 			return nil, err
 		}
 	}
-	image, err := g.Solver.Image(ctx, b, source, platform, policies)
-	if image != nil {
-		image.Close()
-	}
-	return image, err
+	return g.Solver.ImageConfig(ctx, b, source, platform, policies)
 }
 
 var errContainers = status.Error(codes.Unimplemented, "llbmd has no containers for frontends")

@@ -44,7 +44,10 @@ type Graph struct {
 	Result, Output int
 	// Canonical is whether llbm reads each op as this package does: its bytes are those that this package writes.
 	Canonical bool
-	sent      *pb.Definition
+	// Def is the definition that was read, and Sent the one that the client sent, from which Def was rewritten row by row. Parts are the
+	// rows of Sent for which Def has further entries, before its last one.
+	Def, Sent *pb.Definition
+	Parts     []int
 }
 
 // Entries returns the bytes of a definition that llbm reads.
@@ -141,7 +144,7 @@ func load(def, sent *pb.Definition, parts []int, ordered func(*rows) ([]int, err
 	for v, k := range order {
 		number[k] = v
 	}
-	g, from := &Graph{Canonical: canonical, sent: sent}, r.originsOf(parts)
+	g, from := &Graph{Canonical: canonical, Def: def, Sent: sent, Parts: parts}, r.originsOf(parts)
 	for _, k := range order {
 		v := g.vertex(r.ops[k], r.digests[k], def.Def[k], from.rows[k])
 		v.Place = k
@@ -167,10 +170,10 @@ func load(def, sent *pb.Definition, parts []int, ordered func(*rows) ([]int, err
 // vertex returns the vertex of an op, which was made of a row of the definition that was sent, without its inputs.
 func (g *Graph) vertex(op *pb.Op, named digest.Digest, entry []byte, row int) Vertex {
 	v := Vertex{Op: op, Sent: op, Entry: named, Row: row, Digest: named}
-	if before := g.sent.Def[row]; !bytes.Equal(before, entry) {
+	if before := g.Sent.Def[row]; !bytes.Equal(before, entry) {
 		v.Sent, v.Digest = sentOp(before, op), digest.FromBytes(before)
 	}
-	metadata := g.sent.Metadata[v.Digest]
+	metadata := g.Sent.Metadata[v.Digest]
 	v.Name, v.Group = Describe(metadata, v.Sent), metadata.ProgressGroup
 	return v
 }
@@ -298,7 +301,7 @@ func describeAction(action *pb.FileAction) string {
 
 // Wrap adds to an error which vertex it is of, and the places in files from which the client made the vertex.
 func (g *Graph) Wrap(v int, err error) error {
-	return located(g.sent, g.Vertices[v].Digest, errdefs.WrapVertex(err, g.Vertices[v].Digest))
+	return located(g.Sent, g.Vertices[v].Digest, errdefs.WrapVertex(err, g.Vertices[v].Digest))
 }
 
 func located(def *pb.Definition, d digest.Digest, err error) error {
@@ -314,8 +317,8 @@ func located(def *pb.Definition, d digest.Digest, err error) error {
 }
 
 // WrapRow adds to a refusal of llbm which names a row, as `llbm: fault 88 k ..`, what the client knows of this row, and what a function
-// says of the line and the row's op.
-func WrapRow(sent *pb.Definition, err error, more func(line string, op *pb.Op) string) error {
+// says of it and of the row's op.
+func WrapRow(sent *pb.Definition, err error, more func(refusal *machine.Refusal, op *pb.Op) string) error {
 	var refusal *machine.Refusal
 	if !errors.As(err, &refusal) || refusal.Number < 82 || refusal.Number == 83 || refusal.Number > 90 {
 		return err
@@ -329,7 +332,7 @@ func WrapRow(sent *pb.Definition, err error, more func(line string, op *pb.Op) s
 	op := &pb.Op{}
 	if op.Unmarshal(sent.Def[k]) == nil {
 		name := printable.Cut(printable.Of(Describe(sent.Metadata[d], op)), mostOfName)
-		err = status.Error(st.Code(), messages.Text(fmt.Sprintf("%s (%s)%s", st.Message(), name, more(strings.TrimPrefix(st.Message(), "llbm: "), op))))
+		err = status.Error(st.Code(), messages.Text(fmt.Sprintf("%s (%s)%s", st.Message(), name, more(refusal, op))))
 	}
 	return located(sent, d, errdefs.WrapVertex(err, d))
 }

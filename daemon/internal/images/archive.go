@@ -32,6 +32,9 @@ type Folder struct {
 	Late []string
 }
 
+// Depth returns how many directories lead to what the folder has, with the one to which the archive is unpacked.
+func (f Folder) Depth() int { return len(paths.Names(f.Path)) + 1 }
+
 // Archive reads what an ADD unpacks of an archive into a store, by the rules of BuildKit: an entry replaces one before it, an owner and
 // a mode are those of the entry, and a name of a whiteout is a name like any other. The caller has to drop the manifest.
 func Archive(ctx context.Context, store *contents.Store, from io.Reader, options sources.Options) (*sources.Manifest, []Folder, error) {

@@ -13,6 +13,7 @@ import (
 	"fmt"
 	"io"
 	"io/fs"
+	"log"
 	"os"
 	"path/filepath"
 	"regexp"
@@ -23,7 +24,9 @@ import (
 	"sync"
 	"time"
 
+	"github.com/moby/buildkit/solver/pb"
 	"golang.org/x/sys/unix"
+	"llbm/daemon/internal/messages"
 )
 
 const (
@@ -180,6 +183,17 @@ func Name(ref string) string {
 	}
 	sum := sha256.Sum256([]byte(ref))
 	return "sha256-" + hex.EncodeToString(sum[:])
+}
+
+// Keep keeps a definition that a build has solved, or logs why it can't.
+func (f *Folder) Keep(s Solved, def *pb.Definition) {
+	var err error
+	if s.Definition, err = def.Marshal(); err == nil {
+		err = f.Add(s)
+	}
+	if err != nil {
+		log.Printf("llbmd: build %q is not kept: %s", s.Ref, messages.Of(err))
+	}
 }
 
 // Add keeps what a build has solved, whole or not at all, and drops the oldest builds that are beyond the bounds. Where the disk is

@@ -34,7 +34,8 @@ const board = 171
 // A Refusal is a fault of llbm as an error of gRPC.
 type Refusal struct {
 	Number int
-	Second int // the number after that of the fault, or -1; of a fault of a definition it is mostly a row
+	Second int          // the number after that of the fault, or -1; of a fault of a definition it is mostly a row
+	Script *ScriptFault // or nil
 	status *status.Status
 }
 
@@ -49,6 +50,10 @@ func Fault(line string) error {
 	number, cause, ok := parseFault(line)
 	if !ok {
 		return status.Errorf(codes.Internal, "llbm: %s", line)
+	}
+	var script *ScriptFault
+	if one, ok := parseScript(line); ok {
+		script = &one
 	}
 	code := codes.InvalidArgument
 	switch {
@@ -67,7 +72,7 @@ func Fault(line string) error {
 	if number == board && memory[cause] {
 		line += ": memory was refused"
 	}
-	return &Refusal{Number: number, Second: cause, status: status.Newf(code, "llbm: %s", line)}
+	return &Refusal{Number: number, Second: cause, Script: script, status: status.Newf(code, "llbm: %s", line)}
 }
 
 // faultIn returns the first line of the program's messages that is a fault, or nothing.

@@ -121,8 +121,8 @@ type ScriptFault struct {
 	Has         string
 }
 
-// ParseScript reads a line of a fault, `fault 89 ROW Script NUMBER HAS`.
-func ParseScript(line string) (ScriptFault, bool) {
+// parseScript reads a line of a fault, `fault 89 ROW Script NUMBER HAS`.
+func parseScript(line string) (ScriptFault, bool) {
 	n, ok := numbers(line, "fault 89 # Script # ..")
 	if !ok {
 		return ScriptFault{}, false

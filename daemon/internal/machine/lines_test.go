@@ -69,12 +69,12 @@ func TestFaultsOfScriptsAreRead(t *testing.T) {
 		"fault 89 1 Script 71 go build": {1, 71, "go build"}, "fault 89 0 Script 72 3": {0, 72, "3"}, "fault 89 12 Script 71 ": {12, 71, ""},
 		"fault 89 1 Script 71": {1, 71, ""},
 	} {
-		if got, ok := ParseScript(line); !ok || got != want {
+		if got, ok := parseScript(line); !ok || got != want {
 			t.Errorf("%q: %+v %t", line, got, ok)
 		}
 	}
 	for _, line := range []string{"", "fault 89 1 Output", "fault 88 1 Script 71 go", "llbm: fault 89 1 Script 71 go", "fault 89 x Script 71 go"} {
-		if got, ok := ParseScript(line); ok {
+		if got, ok := parseScript(line); ok {
 			t.Errorf("%q: %+v", line, got)
 		}
 	}

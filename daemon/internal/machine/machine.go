@@ -47,7 +47,8 @@ type Program struct {
 	Proved  bool
 	Limits  Limits
 
-	isHelper bool // whether it is a program in Go
+	isHelper bool          // whether it is a program in Go
+	atOnce   chan struct{} // has an element for each process that works on a definition, or is nil if there is no bound
 }
 
 // Find looks at a program.
@@ -248,7 +249,7 @@ func (p *Program) Scripts(ctx context.Context, definition []byte) ([]ScriptFault
 	}
 	var found []ScriptFault
 	for _, line := range strings.Split(text, "\n") {
-		if one, ok := ParseScript(line); ok {
+		if one, ok := parseScript(line); ok {
 			found = append(found, one)
 		}
 	}
@@ -258,6 +259,11 @@ func (p *Program) Scripts(ctx context.Context, definition []byte) ([]ScriptFault
 // show returns what the program shows of a definition with options. If the definition is refused, with another status than that of an
 // answer, the error is its first fault.
 func (p *Program) show(ctx context.Context, definition []byte, answer int, options ...string) (string, error) {
+	leave, err := p.enter(ctx)
+	if err != nil {
+		return "", err
+	}
+	defer leave()
 	var out bytes.Buffer
 	run, err := p.start(ctx, bytes.NewReader(definition), nil, nil, append([]string{"show"}, options...)...)
 	if err != nil {

@@ -46,7 +46,7 @@ func TestAProgramThatIsNotLlbmIsRefusedInPlainWords(t *testing.T) {
 }
 
 func TestAProgramThatDoesNotEndIsNotWaitedFor(t *testing.T) {
-	path := script(t, "echo so\nsleep 1000")
+	path := script(t, "echo so\nsleep 100000")
 	ctx, cancel := context.WithTimeout(context.Background(), time.Millisecond)
 	defer cancel()
 	_, err := Find(ctx, path, Limits{})

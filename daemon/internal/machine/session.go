@@ -11,6 +11,7 @@ import (
 	"os"
 	"strconv"
 	"strings"
+	"sync"
 	"sync/atomic"
 
 	"golang.org/x/sys/unix"
@@ -45,6 +46,7 @@ type Run struct {
 	left        int  // how many events may still be asked for
 	events      int  // how many were done
 	aside       *int // how many bytes may still be read aside, while that is done
+	leave       func()
 }
 
 // window is how many events are asked for at a time.
@@ -52,7 +54,23 @@ const window = 64
 
 // Step begins a run of a definition, which is in a file, on local sources. What it writes is added to a number, which the
 // runs of one build share: the bound on output is on all of them.
+//
+// The caller has to stop it.
 func (p *Program) Step(ctx context.Context, definition *os.File, sources []Source, workers int, written *atomic.Int64) (*Run, error) {
+	leave, err := p.enter(ctx)
+	if err != nil {
+		return nil, err
+	}
+	r, err := p.step(ctx, definition, sources, workers, written)
+	if err != nil {
+		leave()
+		return nil, err
+	}
+	r.leave = sync.OnceFunc(leave)
+	return r, nil
+}
+
+func (p *Program) step(ctx context.Context, definition *os.File, sources []Source, workers int, written *atomic.Int64) (*Run, error) {
 	const firstFile = 3
 	files := []*os.File{definition}
 	words := []string{"step", place(firstFile), "--looks", "--ends", "--workers", strconv.Itoa(workers)}
@@ -322,4 +340,5 @@ func (r *Run) treeLines(vertex, output int, found func(line []byte) error) error
 func (r *Run) Stop() {
 	r.cancel(nil)
 	_ = r.wait()
+	r.leave()
 }

@@ -37,7 +37,7 @@ func TestAProgramIsFoundFromTheWorkingFolder(t *testing.T) {
 }
 
 func TestTheLastOutputMayBeReadLate(t *testing.T) {
-	program := &Program{Path: script(t, "(sleep 2; echo late) &"), Proved: true}
+	program := &Program{Path: script(t, "(while kill -0 $$; do sleep 0.01; done 2>/dev/null; echo late) &"), Proved: true}
 	if text, err := program.show(context.Background(), nil, 0); err != nil || text != "late\n" {
 		t.Errorf("%q %v", text, err)
 	}

@@ -5,6 +5,7 @@ import (
 	"encoding/binary"
 	"fmt"
 	"io"
+	"iter"
 
 	"llbm/daemon/internal/paths"
 	"llbm/daemon/internal/persistent"
@@ -264,9 +265,14 @@ func (r Reader) Of(t tree.Tree) *Node {
 
 // Read reads the text of a tree.
 func (r Reader) Read(ctx context.Context, text io.Reader) (*Node, error) {
+	return r.Take(ctx, entriesOf(text))
+}
+
+// Take returns the node of the entries of a tree, nil of none. The first error ends it.
+func (r Reader) Take(ctx context.Context, entries iter.Seq2[*tree.Entry, error]) (*Node, error) {
 	b := builder{near: r.Near, linked: map[string]bool{}, times: r.Times, known: r.Known, folders: r.Folders}
 	for _, path := range r.Linked {
 		b.linked[paths.Clean(path)] = true
 	}
-	return b.read(ctx, text)
+	return b.all(ctx, entries)
 }

@@ -6,6 +6,7 @@ import (
 	"context"
 	"fmt"
 	"io"
+	"iter"
 	"strings"
 
 	"llbm/daemon/internal/persistent"
@@ -112,28 +113,45 @@ func (b *builder) tree() *Node {
 	return b.open[0].node()
 }
 
-// linesAtOnce is how many lines are read or written without a look at the context.
+// linesAtOnce is how many entries are read or written without a look at the context.
 const linesAtOnce = 1 << 12
 
-func (b *builder) read(ctx context.Context, text io.Reader) (*Node, error) {
-	lines := bufio.NewReaderSize(text, 1<<16)
-	for number := 0; ; number++ {
+// all adds all entries of a tree.
+func (b *builder) all(ctx context.Context, entries iter.Seq2[*tree.Entry, error]) (*Node, error) {
+	number := 0
+	for e, err := range entries {
 		if number%linesAtOnce == 0 && ctx.Err() != nil {
 			return nil, ctx.Err()
 		}
-		line, err := lines.ReadBytes('\n')
-		if err == io.EOF && len(line) == 0 {
-			return b.tree(), nil
-		}
-		if err != nil && err != io.EOF {
-			return nil, err
-		}
-		e, err := tree.ParseLine(bytes.TrimSuffix(line, []byte("\n")))
 		if err == nil {
-			err = b.add(&e)
+			err = b.add(e)
 		}
 		if err != nil {
 			return nil, err
+		}
+		number++
+	}
+	return b.tree(), ctx.Err()
+}
+
+// entriesOf yields the entries of the text of a tree. An error is the last.
+func entriesOf(text io.Reader) iter.Seq2[*tree.Entry, error] {
+	return func(yield func(*tree.Entry, error) bool) {
+		for lines := bufio.NewReaderSize(text, 1<<16); ; {
+			line, err := lines.ReadBytes('\n')
+			if err == io.EOF && len(line) == 0 {
+				return
+			}
+			if err == nil || err == io.EOF {
+				var e tree.Entry
+				if e, err = tree.ParseLine(bytes.TrimSuffix(line, []byte("\n"))); err == nil && yield(&e, nil) {
+					continue
+				}
+			}
+			if err != nil {
+				yield(nil, err)
+			}
+			return
 		}
 	}
 }

@@ -45,8 +45,8 @@ func TestOneProcessWaitsForTheNextComparison(t *testing.T) {
 	d := started(t, nil)
 	last := 0
 	for range 3 {
-		eventually(t, "another one waits", func() bool { return d.rules.Waiting() != 0 && d.rules.Waiting() != last })
-		last = d.rules.Waiting()
+		eventually(t, "another one waits", func() bool { return d.builds.Shared.Rules.Waiting() != 0 && d.builds.Shared.Rules.Waiting() != last })
+		last = d.builds.Shared.Rules.Waiting()
 		if _, err := d.solved(t, llb.Scratch().File(llb.Mkfile("/a", 0o600, nil)), client.SolveOpt{}); err != nil {
 			t.Fatal(err)
 		}

@@ -210,7 +210,7 @@ func directory(t testing.TB, files map[string]string) string {
 func (d *daemon) children(t testing.TB) []string {
 	t.Helper()
 	out := childrenOf(t, os.Getpid())
-	waiting := strconv.Itoa(d.rules.Waiting())
+	waiting := strconv.Itoa(d.builds.Shared.Rules.Waiting())
 	return slices.DeleteFunc(out, func(pid string) bool { return pid == waiting })
 }
 

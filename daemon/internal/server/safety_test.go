@@ -104,7 +104,7 @@ func TestNothingIsLeftOfAClientThatVanishes(t *testing.T) {
 				if err := d.Prune(context.Background(), nil); err != nil {
 					t.Error(err)
 				}
-				eventually(t, "the store is empty", func() bool { return d.store.Used() == 0 })
+				eventually(t, "the store is empty", func() bool { return d.builds.Shared.Keeper.Store().Used() == 0 })
 				if _, err := d.solved(t, llb.Scratch().File(llb.Mkfile("/a", 0o600, nil)), client.SolveOpt{}); err != nil {
 					t.Error(err)
 				}
@@ -159,7 +159,7 @@ func TestAClientThatNeverEndsIsGivenUp(t *testing.T) {
 			t.Errorf("%s: %v", name, err)
 		}
 		cancel()
-		eventually(t, "the store is empty", func() bool { return d.store.Used() == 0 })
+		eventually(t, "the store is empty", func() bool { return d.builds.Shared.Keeper.Store().Used() == 0 })
 	}
 }
 

@@ -38,7 +38,7 @@ step)
 		esac
 		echo
 	done
-	exec sleep 600 ;;
+	exec sleep 100000 ;;
 esac
 exit 1
 `

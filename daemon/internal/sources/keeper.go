@@ -62,6 +62,15 @@ type Keeper struct {
 	memory   int // of all that is kept
 }
 
+// OpenKeeper keeps sources in a store of its own, in a folder and with a bound of bytes (package contents says which).
+func OpenKeeper(folder string, bytes int64, leaveOut bool, idle time.Duration) (*Keeper, error) {
+	store, err := contents.New(folder, bytes)
+	if err != nil {
+		return nil, err
+	}
+	return NewKeeper(store, leaveOut, idle), nil
+}
+
 // NewKeeper keeps sources in a store, and gives them up when it is full. A client that sends nothing for the idle time is
 // given up too. With leaveOut, links and special files are left out of sources.
 func NewKeeper(store *contents.Store, leaveOut bool, idle time.Duration) *Keeper {

@@ -6,9 +6,11 @@ import (
 	"bytes"
 	"fmt"
 	"io"
+	"iter"
 	"slices"
 	"time"
 
+	"llbm/daemon/internal/archives"
 	"llbm/daemon/internal/contents"
 	"llbm/daemon/internal/tree"
 )
@@ -22,6 +24,11 @@ type Entry struct {
 	Modified int64
 	Content  contents.Ref
 	Link     string // the target of a symbolic link, which has no content
+}
+
+// IsArchive is whether the content is that of a file which BuildKit unpacks.
+func (e *Entry) IsArchive() bool {
+	return archives.Is(io.NewSectionReader(e.Content, 0, e.Content.Size))
 }
 
 // A Manifest is a local source as it was sent: its entries in path order, without the root. Its holders share it.
@@ -101,18 +108,27 @@ func (m *Manifest) Content(path string) (contents.Ref, bool) {
 	return m.Entries[at].Content, true
 }
 
-// WriteByReference writes the source's tree with a token of the table in the place of each content, and notes each, if it is asked to.
-func (m *Manifest) WriteByReference(to io.Writer, table *contents.Table, note func(e *Entry, token []byte) error) error {
-	return m.write(to, func(e *Entry) ([]byte, error) {
+// ByReference yields the source's tree with a token of the table in the place of each content and of each link, and notes each, if it is
+// asked to. An error is the last.
+func (m *Manifest) ByReference(table *contents.Table, note func(e *Entry, token []byte) error) iter.Seq2[*tree.Entry, error] {
+	return m.tree(func(e *Entry) ([]byte, error) {
+		var token []byte
+		var err error
 		if e.Link != "" {
-			return table.AddLink(e.Link)
+			token, err = table.AddLink(e.Link)
+		} else {
+			token, err = table.Add(e.Content)
 		}
-		token, err := table.Add(e.Content)
 		if err == nil && note != nil {
 			err = note(e, token)
 		}
 		return token, err
 	})
+}
+
+// WriteByReference writes the same as text.
+func (m *Manifest) WriteByReference(to io.Writer, table *contents.Table, note func(e *Entry, token []byte) error) error {
+	return write(to, m.ByReference(table, note))
 }
 
 // A HasMark says that a source by value has the byte with which tokens begin, so tokens would be mistaken.
@@ -128,7 +144,7 @@ func (path HasLink) Error() string { return string(path) + " is a symbolic link"
 // WriteByValue writes the source's tree with its contents. With tokens elsewhere, which a table has, the byte 255 in a content is a
 // HasMark; without a table a symbolic link is a HasLink, unless links are files that have their targets.
 func (m *Manifest) WriteByValue(to io.Writer, table *contents.Table, linksAsFiles bool) error {
-	return m.write(to, func(e *Entry) ([]byte, error) {
+	return write(to, m.tree(func(e *Entry) ([]byte, error) {
 		switch {
 		case e.Link != "" && linksAsFiles:
 			return []byte(e.Link), nil
@@ -145,24 +161,37 @@ func (m *Manifest) WriteByValue(to io.Writer, table *contents.Table, linksAsFile
 			return nil, HasMark(e.Path)
 		}
 		return data, nil
-	})
+	}))
 }
 
-func (m *Manifest) write(to io.Writer, content func(*Entry) ([]byte, error)) error {
-	out := bufio.NewWriterSize(to, 1<<16)
-	if err := tree.WriteEntry(out, &tree.Empty()[0]); err != nil {
-		return err
-	}
-	for i := range m.Entries {
-		e := &m.Entries[i]
-		line := tree.Entry{Path: e.Path, Dir: e.Dir, Mode: e.Mode, UID: e.UID, GID: e.GID}
-		if !e.Dir && (e.Content.Size > 0 || e.Link != "") {
+// tree yields the source's tree, with what a function has for each content. An error is the last.
+func (m *Manifest) tree(content func(*Entry) ([]byte, error)) iter.Seq2[*tree.Entry, error] {
+	return func(yield func(*tree.Entry, error) bool) {
+		if !yield(&tree.Empty()[0], nil) {
+			return
+		}
+		for i := range m.Entries {
+			e := &m.Entries[i]
+			one := tree.Entry{Path: e.Path, Dir: e.Dir, Mode: e.Mode, UID: e.UID, GID: e.GID}
 			var err error
-			if line.Content, err = content(e); err != nil {
-				return err
+			if !e.Dir && (e.Content.Size > 0 || e.Link != "") {
+				one.Content, err = content(e)
+			}
+			if !yield(&one, err) || err != nil {
+				return
 			}
 		}
-		if err := tree.WriteEntry(out, &line); err != nil {
+	}
+}
+
+// write writes the text of a tree.
+func write(to io.Writer, entries iter.Seq2[*tree.Entry, error]) error {
+	out := bufio.NewWriterSize(to, 1<<16)
+	for e, err := range entries {
+		if err != nil {
+			return err
+		}
+		if err := tree.WriteEntry(out, e); err != nil {
 			return err
 		}
 	}

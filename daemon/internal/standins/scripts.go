@@ -116,10 +116,10 @@ func Words(fault machine.ScriptFault, exec *pb.ExecOp) string {
 }
 
 // Check lets llbm read the scripts of rules, and returns an error for the first one that is none.
-func Check(ctx context.Context, program *machine.Program, rules []Rule) error {
+func (s Set) Check(ctx context.Context, program *machine.Program) error {
 	var def pb.Definition
 	var lines []int
-	for _, rule := range rules {
+	for _, rule := range s.Rules {
 		if len(rule.Words) == 0 {
 			continue
 		}

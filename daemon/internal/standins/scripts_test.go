@@ -33,7 +33,7 @@ func TestNewWordsAreScriptsOfLlbm(t *testing.T) {
 	llbm := program(t)
 	for text, want := range read(t).Refused {
 		if rules, err := Read([]byte(text)); err == nil {
-			if err := Check(t.Context(), llbm, rules); err == nil || err.Error() != want {
+			if err := (Set{Rules: rules}).Check(t.Context(), llbm); err == nil || err.Error() != want {
 				t.Errorf("%q: %v, not %s", text, err, want)
 			}
 		}
@@ -42,13 +42,13 @@ func TestNewWordsAreScriptsOfLlbm(t *testing.T) {
 	if err != nil {
 		t.Fatal(err)
 	}
-	if err := Check(t.Context(), llbm, rules[:3]); err != nil {
+	if err := (Set{Rules: rules[:3]}).Check(t.Context(), llbm); err != nil {
 		t.Error(err)
 	}
-	if err := Check(t.Context(), llbm, rules); err == nil || err.Error() != "the new words are not a script, fault 71 go: line 5" {
+	if err := (Set{Rules: rules}).Check(t.Context(), llbm); err == nil || err.Error() != "the new words are not a script, fault 71 go: line 5" {
 		t.Error(err)
 	}
-	if err := Check(t.Context(), llbm, rules[:1]); err != nil {
+	if err := (Set{Rules: rules[:1]}).Check(t.Context(), llbm); err != nil {
 		t.Error(err)
 	}
 }

@@ -22,11 +22,15 @@ class Change(NamedTuple):
             return ADDED
         return CHANGED if self.after else REMOVED
 
+    def described(self) -> str:
+        """Describes the change, without its kind."""
+        if self.before and self.after:
+            return ", ".join(differences(self.before, self.after))
+        return entry_text(self.after or self.before)
+
     def shown(self) -> str:
         """Describes the change in one line."""
-        if self.before and self.after:
-            return f"{CHANGED} " + ", ".join(differences(self.before, self.after))
-        return f"{self.kind} {entry_text(self.after or self.before)}"
+        return f"{self.kind} {self.described()}"
 
 
 class Compared(NamedTuple):

@@ -10,8 +10,7 @@ from llbm_tools.rules.rule_words import more_paths
 
 def change_line(change: Change) -> str:
     """Returns a change in one line: what happened, to which path, and the rest."""
-    kind, _, rest = change.shown().partition(" ")
-    return f"{kind} {change.path}: {rest}"
+    return f"{change.kind} {change.path}: {change.described()}"
 
 
 def compared_lines(compared: Compared, most: int) -> Iterator[str]:

@@ -74,10 +74,14 @@ class Views:
 
     def title(self, number: int) -> str:
         """Describes a vertex by its number, its kind, and its own name or the beginning of what it does."""
+        return f"{number} {self.described(number)}"
+
+    def described(self, number: int) -> str:
+        """Describes a vertex in the same way, without its number."""
         vertex = self.graph.vertices[number]
         text = vertex.name or "; ".join(definition.texts_of(vertex.op))
         text = shortened(printable(text), MOST_OF_A_NAME)
-        return f"{number} {vertex.kind}" + (f": {text}" if text else "")
+        return vertex.kind + (f": {text}" if text else "")
 
     def place_of(self, number: int) -> str:
         """Returns the place of a vertex in a file that the definition was made from, or an empty text."""

@@ -2,17 +2,17 @@
 
 from llbm_tools.definitions import graphviz
 from llbm_tools.definitions.inspection import Edge, Entry, Inspected
+from llbm_tools.llb.findings import Finding
 
 
 def refused_in(entry: Entry) -> list[str]:
     """Returns what a label has of what is refused."""
-    return graphviz.first_texts([f"refused: {' '.join(words(line))}" for line in entry.refusals()])
+    return graphviz.first_texts([f"refused: {words(finding)}" for finding in entry.refused])
 
 
-def words(line: str) -> list[str]:
+def words(finding: Finding) -> str:
     """Returns the number of a fault and what follows its row."""
-    _, number, _, *rest = line.split(" ")
-    return [number, *rest]
+    return " ".join(filter(None, [str(finding.number), finding.rest]))
 
 
 def arrow(edge: Edge, target: str) -> str:

@@ -24,6 +24,7 @@ line is refused; 3 a read or a write failed.
 
 import argparse
 import sys
+from typing import NamedTuple
 
 from llbm_tools import common, inputs, objects
 from llbm_tools.command_line import Parser
@@ -51,36 +52,41 @@ def notes_of(data: bytes, found: list[Finding], is_like: bool) -> list[notes.Row
         return []
 
 
-def lines_of(data: bytes, llbm: str, is_like: bool) -> tuple[list[str], list[str]]:
+class Line(NamedTuple):
+    """A line: its kind, `fault` or `note`, its words, and the name of its entry, or nothing."""
+
+    kind: str
+    words: str
+    name: str
+
+    def text(self) -> str:
+        """Returns the line as it is printed."""
+        return "\t".join(filter(None, [f"{self.kind} {self.words}", self.name]))
+
+
+def lines_of(data: bytes, llbm: str, is_like: bool) -> tuple[list[Line], list[Line]]:
     """Returns a line for each finding, and one for each note; with `is_like` also for what can end otherwise."""
     found = findings_of(data, llbm)
     noted = notes_of(data, found, is_like)
     shown = names_in(data) if found or noted else []
 
-    def line(kind: str, words: str, row: int | None) -> str:
-        name = shown[row] if shown and row is not None else ""
-        return "\t".join(filter(None, [common.printable(f"{kind} {words}"), name]))
+    def line(kind: str, words: str, row: int | None) -> Line:
+        return Line(kind, common.printable(words), shown[row] if shown and row is not None else "")
 
     faults = [line("fault", finding.words(), finding.row) for finding in found]
     return faults, [line("note", one.words(), one.row) for one in noted]
 
 
-def finding_of(line: str) -> dict[str, str]:
-    """Returns the object of a line."""
-    words, _, name = line.partition("\t")
-    kind, _, rest = words.partition(" ")
-    return {"kind": kind, "words": rest, "name": name}
-
-
-def members_of(faults: list[str], noted: list[str]) -> dict[str, object]:
+def members_of(faults: list[Line], noted: list[Line]) -> dict[str, object]:
     """Returns the members of the object of all findings and notes."""
-    found = [finding_of(line) for line in faults + noted]
-    return {"findings": found, "faults": len(faults), "notes": len(noted)}
+    return {"findings": [one._asdict() for one in faults + noted], "faults": len(faults), "notes": len(noted)}
 
 
-def text_of(faults: list[str], noted: list[str], *, is_json: bool) -> str:
+def text_of(faults: list[Line], noted: list[Line], *, is_json: bool) -> str:
     """Returns what is printed."""
-    return objects.text_of(members_of(faults, noted)) if is_json else "".join(f"{one}\n" for one in faults + noted)
+    if is_json:
+        return objects.text_of(members_of(faults, noted))
+    return "".join(f"{one.text()}\n" for one in faults + noted)
 
 
 def parse_options() -> argparse.Namespace:

@@ -1,7 +1,7 @@
-"""What ends otherwise in BuildKit in a build that the page opens, as `explain buildkit` prints it, by vertex, step."""
+"""What ends otherwise in BuildKit in a build that the page opens, as `explain buildkit` finds it, by vertex, step."""
 
+import json
 import pathlib
-import re
 import subprocess
 import tempfile
 
@@ -9,7 +9,6 @@ from llbm_tools import common
 from llbm_tools.commands import line_of
 from llbm_tools.sessions.builds import Build
 
-LINE = re.compile(r"vertex ([0-9]+)(?: action ([0-9]+))?: (.*)")
 MOST_SECONDS = 60
 
 
@@ -24,20 +23,21 @@ def definition_of(build: Build, program: str, folder: str) -> pathlib.Path | Non
     return None if done.returncode else made
 
 
-def lines_of(build: Build, program: str) -> list[str]:
-    """Returns the lines of `explain buildkit`; none if it can't tell, as for a definition that llbm refuses."""
+def differences_of(build: Build, program: str) -> list[dict[str, object]]:
+    """Returns what `explain buildkit` finds; nothing if it can't tell, as for a definition that llbm refuses."""
     with tempfile.TemporaryDirectory(prefix="llbm-page-") as folder:
         definition = definition_of(build, program, folder)
         trees = {name: build.place(file) for name, file in build.trees.items()}
         if definition is None or None in trees.values():
             return []
         given = [f"{name}={at}" for name, at in trees.items()]
-        words = line_of("explain buildkit", "--llbm", program, str(definition), *given)
+        words = line_of("explain buildkit", "--json", "--llbm", program, str(definition), *given)
         try:
             done = subprocess.run(words, stdin=subprocess.DEVNULL, capture_output=True, timeout=MOST_SECONDS)
         except subprocess.TimeoutExpired:
             return []
-        return done.stdout.decode("utf-8", "replace").splitlines() if done.returncode < 2 else []
+        found: list[dict[str, object]] = json.loads(done.stdout)["differences"] if done.returncode < 2 else []
+        return found
 
 
 def notes_of(build: Build, llbm: str | None) -> list[object]:
@@ -45,9 +45,7 @@ def notes_of(build: Build, llbm: str | None) -> list[object]:
     program = str(pathlib.Path(common.program_place(llbm)).absolute())
     if not pathlib.Path(program).is_file():
         return []
-    found: list[object] = []
-    for line in lines_of(build, program):
-        if note := LINE.fullmatch(line):
-            action = None if note[2] is None else int(note[2])
-            found.append({"vertex": int(note[1]), "action": action, "words": note[3]})
-    return found
+    found = [one for one in differences_of(build, program) if one["vertex"] is not None]
+    return [
+        {"vertex": one["vertex"], "action": one["action"], "words": common.printable(str(one["text"]))} for one in found
+    ]

@@ -15,12 +15,15 @@ from collections.abc import Callable, Iterable, Iterator
 from typing import IO, NamedTuple
 
 from llbm_tools import counts as counting
+from llbm_tools.common import shortened
 from llbm_tools.counts import Counts
 from llbm_tools.os_errors import os_error_text
 from llbm_tools.paths import ROOT
 
 PAUSE = 0.2
 MINUTE = 60
+# How many characters of a command its line has.
+MOST_SHOWN = 100
 # What the address sanitizer says of memory that a test wants refused.
 EXPECTED = re.compile(r"==[0-9]+==WARNING: AddressSanitizer failed to allocate .*")
 
@@ -76,8 +79,8 @@ def end_of(child: subprocess.Popen[bytes], block: bool) -> tuple[int, float] | N
 
 def tell(part: Part, ended: Ended, shown: bool) -> Counts:
     """Prints the line of a part, and what it printed if it failed and that is not shown yet; returns its counts."""
-    counts = ended.counts()
-    print(f"{part.shown()}: {counts.line()} ({ended.seconds / MINUTE:.2f} processor minutes)", flush=True)
+    counts, command = ended.counts(), shortened(part.shown(), MOST_SHOWN)
+    print(f"{command}: {counts.line()} ({ended.seconds / MINUTE:.2f} processor minutes)", flush=True)
     for line in ended.lines if counts.failed and not shown else ():
         if not EXPECTED.fullmatch(line):
             print(f"    {line}", flush=True)

@@ -19,10 +19,10 @@ write failed, or the program ended by itself.
 """
 
 import argparse
-import re
 import sys
 import tempfile
 from collections.abc import Iterator
+from typing import NamedTuple
 
 from llbm_tools import common, inputs, objects
 from llbm_tools.command_line import Parser
@@ -37,7 +37,17 @@ from llbm_tools.trees.source_files import source_of
 
 MOST_OF_A_LINE = 200
 USUAL_PATHS = 20
-VERTEX = re.compile(r"vertex ([0-9]+) (.*)", re.DOTALL)
+
+
+class Head(NamedTuple):
+    """The line of a vertex, above those of its steps: its number, and its kind and its name or what it does."""
+
+    vertex: int
+    title: str
+
+    def __str__(self) -> str:
+        """Returns the line as it is printed."""
+        return f"vertex {self.vertex} {self.title}"
 
 
 def step_lines(happened: Happened, most: int) -> Iterator[str]:
@@ -52,11 +62,11 @@ def below(happened: Happened | None) -> Iterator[str]:
     yield from (f"    {line}" for line in otherwise_lines(happened))
 
 
-def event_lines(event: Event, watch: Watch, views: Views, options: argparse.Namespace) -> Iterator[str]:
+def event_lines(event: Event, watch: Watch, views: Views, options: argparse.Namespace) -> Iterator[Head | str]:
     """Yields the lines of an event."""
     if event.kind == "claim":
         place = views.place_of(event.vertex)
-        yield f"vertex {views.title(event.vertex)}" + (f" ({place})" if place else "")
+        yield Head(event.vertex, views.described(event.vertex) + (f" ({place})" if place else ""))
         yield from [] if options.summary else below(watch.last())
     elif event.kind == "settle":
         if options.summary and not event.fails():
@@ -68,14 +78,15 @@ def event_lines(event: Event, watch: Watch, views: Views, options: argparse.Name
         yield from [summary.step_line(happened)] if options.summary else step_lines(happened, options.paths)
 
 
-def blocked_lines(session: Session, views: Views) -> Iterator[str]:
+def blocked_lines(session: Session, views: Views) -> Iterator[Head | str]:
     """Yields the lines of the vertices that were not run."""
     blocked = [vertex for vertex, status in enumerate(session.status()) if status == "blocked"]
     for vertex in blocked:
-        yield from [f"vertex {views.title(vertex)}", "  not run: a vertex that it needs failed"]
+        yield Head(vertex, views.described(vertex))
+        yield "  not run: a vertex that it needs failed"
 
 
-def run_lines(launched: launching.Launched, options: argparse.Namespace) -> Iterator[str]:
+def run_lines(launched: launching.Launched, options: argparse.Namespace) -> Iterator[Head | str]:
     """Yields the lines of a whole run."""
     session, views = launched.session, Views(launched)
     watch = Watch(session, launched.graph, launched.entries.data, None if options.summary else launched.sources)
@@ -102,15 +113,15 @@ def write_line(text: str) -> None:
     sys.stdout.flush()
 
 
-def members_of(lines: Iterator[str], launched: launching.Launched) -> dict[str, object]:
+def members_of(lines: Iterator[Head | str], launched: launching.Launched) -> dict[str, object]:
     """Runs to the end, and returns the members of the object of the run."""
     outside: list[str] = []
     vertices: list[dict[str, object]] = []
     below = outside
     for line in lines:
-        if found := VERTEX.fullmatch(line):
+        if isinstance(line, Head):
             below = []
-            vertices.append({"vertex": int(found[1]), "title": found[2], "lines": below})
+            vertices.append({**line._asdict(), "lines": below})
         else:
             below.append(line.removeprefix("  "))
     return {
@@ -137,7 +148,7 @@ def explain(options: argparse.Namespace) -> int:
             objects.write(members_of(lines, launched))
             return int(is_failed(launched))
         for line in lines:
-            write_line(common.shortened(common.printable(line), MOST_OF_A_LINE))
+            write_line(common.shortened(common.printable(str(line)), MOST_OF_A_LINE))
         if not is_failed(launched):
             count, result = len(launched.session.record), launched.graph.result
             write_line(f"the run is complete after {count} events, with the result {result}")

@@ -37,7 +37,7 @@ sys.exit(1)
 WAITS = """
 sys.stderr.write("waiting\\n")
 sys.stderr.flush()
-time.sleep(600)
+time.sleep(100000)
 """
 
 

@@ -132,7 +132,7 @@ class Processes(Folder):
         self.assertEqual(self.runs(SAID=said).fault(listed("passes")), "")
 
     def test_one_that_takes_too_long_is_killed_with_what_it_started(self):
-        runs = self.runs(seconds=1, LASTS="600")
+        runs = self.runs(seconds=1, LASTS="100000")
         with mock.patch.object(daemon_suite, "GRACE", 0):
             self.assertIn("did not end in time", runs.fault(listed("passes")))
 

@@ -273,8 +273,8 @@ class Dist(WithFake):
         self.check_success(done, "".join(f"{place}\n" for place in places).encode())
         return places
 
-    def test_the_same_files_make_the_same_archive(self):
-        one, other = self.pack("one"), self.pack("other")
+    def check_same(self, one, other):
+        """Checks that two archives of the same files are the same, and that nothing in them is of this host."""
         for mine, its in zip(one, other):
             self.assertEqual(mine.read_bytes(), its.read_bytes())
         with tarfile.open(one[0]) as archive:
@@ -296,8 +296,9 @@ class Dist(WithFake):
         done = subprocess.run(command, cwd=folder, capture_output=True, timeout=base.GUARD)
         self.assertEqual((done.returncode, done.stdout, done.stderr), (0, b"", b""))
 
-    def test_the_archive_has_what_is_installed_with_its_digests(self):
-        archive, digests = self.pack("one")
+    def test_the_archive_has_what_is_installed_with_its_digests_and_is_made_the_same_again(self):
+        archive, digests = one = self.pack("one")
+        self.check_same(one, self.pack("other"))
         run("install", "--llbm", str(self.llbm), str(self.at / "prefix"))
         subprocess.run(["tar", "-xf", archive], cwd=self.at / "one", check=True)
         packed = self.at / "one" / self.name

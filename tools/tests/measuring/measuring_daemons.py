@@ -63,7 +63,7 @@ class Costs(Folder):
         self.assertEqual(heading, f"llbmd ran `llbm 2.0, not proved`, on {os.cpu_count()} processors.")
 
     def test_the_memory_of_a_child_counts(self):
-        with subprocess.Popen(["sh", "-c", "sleep 600 & echo; wait"], stdout=subprocess.PIPE) as child:
+        with subprocess.Popen(["sh", "-c", "sleep 100000 & echo; wait"], stdout=subprocess.PIPE) as child:
             child.stdout.readline()
             try:
                 found = list(measure_daemons.processes_of(child.pid))

@@ -78,6 +78,11 @@ class Parts(base.WithPrograms):
         self.assertRegex(lines[0], r"^.*/program\S*: 3 passed, 0 failed, 1 skipped \([0-9.]+ processor minutes\)$")
         self.assertEqual(len(lines), 1)
 
+    def test_the_line_of_a_part_with_many_words_is_short(self):
+        _, (line,) = printed(lambda: gate_parts.run(Part(["/bin/true", *["word"] * 100])))
+        self.assertRegex(line, r"^/bin/true word .*\.\.\.: 1 passed, 0 failed, 0 skipped \(")
+        self.assertLess(len(line), 160)
+
     def test_a_part_that_fails_shows_what_it_printed_but_not_what_is_expected(self):
         wants = "==7==WARNING: AddressSanitizer failed to allocate 0x100000000 bytes"
         part = Part([self.program(f"echo '{wants}' >&2", "echo wrong", "exit 3")])

@@ -140,7 +140,7 @@ class Minutes(Folder):
 
     def test_an_interrupt_ends_the_command(self):
         child = subprocess.Popen(
-            base.command("minutes", "sleep", "60"), stdout=subprocess.DEVNULL, stderr=subprocess.DEVNULL
+            base.command("minutes", "sleep", "100000"), stdout=subprocess.DEVNULL, stderr=subprocess.DEVNULL
         )
         base.wait_until(lambda: child.pid in [one.parent for one in minutes.processes().values()], "the command")
         child.send_signal(signal.SIGTERM)
