@@ -55,6 +55,12 @@ class Parser(argparse.ArgumentParser):
         super().__init__(prog or name_of(sys.argv[0]), allow_abbrev=False, **settings)
         self.add_argument("--version", action=Version)
 
+    def add_argument(self, *names: str, **settings: Any) -> argparse.Action:
+        """Adds an argument. Words that may be missing have a default, so no refusal says that they are required."""
+        if settings.get("nargs") == "*" and not names[0].startswith("-"):
+            settings.setdefault("default", [])
+        return super().add_argument(*names, **settings)
+
     def print_help(self, file: object = None) -> None:
         """Prints the help."""
         print_all(self.format_help(), "the help")

@@ -33,7 +33,7 @@ class Command(NamedTuple):
 
 USERS = {
     "Build and run a definition": [
-        Command("build", "building.build", "write the result as a directory or an archive", "build"),
+        Command("build", "building.build", "write the result as a directory, an archive or an image", "build"),
         Command("run", "running.run", "run the program llbm, and explain what it refuses", "run"),
         Command("check", "running.check", "run a folder of cases, each with the result that it has to have", "check"),
     ],
@@ -43,7 +43,7 @@ USERS = {
         Command("impact", "definitions.impact", "print which vertices an edit of it, or of a tree, changes", "impact"),
         Command("show json", "definitions.json_of_show", "write its graph as JSON", "json-of-show"),
         Command("show dot", "definitions.graph_of_show", "write its graph as a picture for Graphviz", "graph-of-show"),
-        Command("show dump", "definitions.dump", "write its messages with all their fields as JSON", "dump"),
+        Command("show dump", "definitions.dump", "write its messages with all their fields", "dump"),
     ],
     "Understand a run": [
         Command("explain", "definitions.explain", "say what a line of llbm means, and what to do about it", "explain"),
@@ -133,10 +133,14 @@ def old_name(name: str) -> Command | None:
     return next((one for one in of_all() if one.old == name), None)
 
 
+def door_of(command: Command) -> str:
+    """Returns the name of the door at which a command is."""
+    return USERS_DOOR if command in of_users() else MAINTAINERS_DOOR
+
+
 def line_of(name: str, *words: str) -> list[str]:
     """Returns the words by which a process starts a command of the repository: one of either door, by its words."""
-    is_users = any(one.words == name for one in of_users())
-    door = paths.ROOT / (USERS_DOOR if is_users else MAINTAINERS_DOOR)
+    door = paths.ROOT / door_of(next(one for one in of_all() if one.words == name))
     return [sys.executable, str(door), *name.split(" "), *words]
 
 

@@ -4,6 +4,7 @@
 of the maintainers. `--help`, `help` and `--version` go to standard output; what can't be read is refused with a usage.
 """
 
+import difflib
 import importlib
 import os
 import sys
@@ -56,6 +57,19 @@ def help_lines(name: str, tables: dict[str, list[Command]], begin: str) -> Itera
             yield f"  {one.words:<22}{one.about}"
 
 
+def unknown(known: list[Command], words: list[str]) -> str:
+    """Returns the line about words that begin no command, with the command that they may mean."""
+    one, other = commands.old_name(words[0]), found(commands.of_all(), words)
+    near = difflib.get_close_matches(" ".join(words), [command.words for command in known], 1, 0.75)
+    if one and one in known:
+        hint = f"; it is now: {one.words}"
+    elif other and other[0].is_here():
+        hint = f"; it is one of {commands.door_of(other[0])}"
+    else:
+        hint = f"; there is: {near[0]}" if near else ""
+    return f"there is no such command: {' '.join(words)}{hint}"
+
+
 def at_a_door(name: str, tables: dict[str, list[Command]], words: list[str]) -> int:
     """Starts the command that words name at a door, or prints the help, and returns the exit status."""
     tables = {about: [one for one in known if one.is_here()] for about, known in tables.items()}
@@ -76,8 +90,7 @@ def at_a_door(name: str, tables: dict[str, list[Command]], words: list[str]) -> 
         print_all(version_line(name), "the version")
         return 0
     say(f"usage: {name} COMMAND [WORD ..]; {name} --help prints the commands")
-    missing = f"a command is missing: {' '.join([name, *first])} .."
-    say(f"there is no such command: {' '.join([*first, after[0]])}" if after else missing)
+    say(unknown(known, [*first, after[0]]) if after else f"a command is missing: {' '.join([name, *first])} ..")
     return REFUSED
 
 

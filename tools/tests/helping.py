@@ -58,7 +58,10 @@ class Words(unittest.TestCase):
             (["tree", "from"], "a command is missing: llbm-tools tree from .."),
             (["nosuch", "x"], "there is no such command: nosuch"),
             (["tree", "of"], "there is no such command: tree of"),
-            (["gate"], "there is no such command: gate"),
+            (["tree", "form", "tar"], "there is no such command: tree form"),
+            (["buidl"], "there is no such command: buidl; there is: build"),
+            (["tree-of-tar"], "there is no such command: tree-of-tar; it is now: tree from tar"),
+            (["gate", "x"], "there is no such command: gate; it is one of dev/dev"),
         ]:
             done = self.at(USERS, *words)
             self.assertEqual((done.returncode, done.stdout, done.stderr), (2, "", f"{usage}{cause}\n"), words)

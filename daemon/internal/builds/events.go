@@ -76,8 +76,8 @@ func (e *Events) end() int {
 	return e.bytes
 }
 
-// Follow hands all events, from the first, to a function, several as one, until the build has ended or the context is done.
-func (e *Events) Follow(ctx context.Context, to func(*controlapi.StatusResponse) error) error {
+// Follow sends all events, from the first, several as one message, until the build has ended or the context is done.
+func (e *Events) Follow(ctx context.Context, send func(*controlapi.StatusResponse) error) error {
 	for next := 0; ; {
 		e.mu.Lock()
 		events, ended, grew := e.all[next:], e.ended, e.grew
@@ -94,7 +94,7 @@ func (e *Events) Follow(ctx context.Context, to func(*controlapi.StatusResponse)
 			continue
 		}
 		message, n := join(events)
-		if err := to(message); err != nil {
+		if err := send(message); err != nil {
 			return err
 		}
 		next += n

@@ -138,9 +138,9 @@ func (r *receiver) refuse(code codes.Code, format string, words ...any) error {
 // run receives packets up to the client's last one, after all contents have come.
 func (r *receiver) run() error {
 	var p fstypes.Packet
-	for finished := false; ; {
-		if r.ended && len(r.open) == 0 && !finished {
-			finished = true
+	for allHere := false; ; {
+		if r.ended && len(r.open) == 0 && !allHere {
+			allHere = true
 			r.requests.finish()
 		}
 		p.Reset()
@@ -159,7 +159,7 @@ func (r *receiver) run() error {
 		case fstypes.PACKET_DATA:
 			err = r.data(p.ID, p.Data)
 		case fstypes.PACKET_FIN:
-			if finished {
+			if allHere {
 				return nil
 			}
 			err = r.refuse(codes.InvalidArgument, "an early end")

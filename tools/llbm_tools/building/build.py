@@ -63,14 +63,14 @@ import argparse
 import tempfile
 from typing import TYPE_CHECKING
 
-from llbm_tools.building import child_processes, folders
+from llbm_tools.building import build_folders, child_processes
 from llbm_tools.building.build_requests import LARGEST, NOTHING, Ended, Request, source_of
 from llbm_tools.building.kept_changes import Changes, Memory
 from llbm_tools.command_line import Parser
 from llbm_tools.common import discard_output, say
 from llbm_tools.os_errors import os_error_text
 from llbm_tools.streams import FAILED, REFUSED, Failed, Refused, exit_status
-from llbm_tools.trees import times
+from llbm_tools.trees import entry_times
 
 if TYPE_CHECKING:
     from llbm_tools.building.one_build import Build
@@ -96,9 +96,9 @@ class Work:
     def do(self) -> None:
         """Does what is needed of the build."""
         self.request.check()
-        folders.remove_left(folders.TEXTS, tempfile.gettempdir())
+        build_folders.remove_left(build_folders.TEXTS, tempfile.gettempdir())
         if not self.request.is_output:
-            folders.remove_left(folders.RESULT, self.request.above)
+            build_folders.remove_left(build_folders.RESULT, self.request.above)
         memory = Memory(self.request) if self.request.options.keep is not None else None
         changes = changes_since(memory, self.request) if memory else None
         if memory and changes and self.is_done(memory, changes):
@@ -199,7 +199,7 @@ def parser() -> argparse.ArgumentParser:
     add("--progress", action="store_true", help="print a line for each vertex as it settles")
     add("--strict", action="store_true", help="refuse a source if something of it is left out")
     add("--platform", metavar="OS/ARCH", help="the platform of sources that are images with several")
-    add("--mtime", metavar="SECONDS", type=times.seconds_of, help="the time of the result's entries")
+    add("--mtime", metavar="SECONDS", type=entry_times.seconds_of, help="the time of the result's entries")
     add("--links", action="store_true", help="take symbolic links, and follow them where BuildKit does")
     add("--no-filters", action="store_true", help="give all of each directory, whatever its source's filters leave out")
     add("--by-value", action="store_true", help="give the program the contents of all sources")

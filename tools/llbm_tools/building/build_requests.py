@@ -15,7 +15,7 @@ from llbm_tools.images import packing
 from llbm_tools.llb.given_definitions import definition_at
 from llbm_tools.rules import filters
 from llbm_tools.streams import Refused, program_at
-from llbm_tools.trees import times
+from llbm_tools.trees import entry_times
 
 OUTPUTS = ("-", "/dev/stdout")
 LARGEST = 16 << 30
@@ -86,7 +86,7 @@ class Request:
         if form:
             packing.check_form(form)
         if self.ending:
-            times.time_of_archive(self.options.mtime)
+            entry_times.time_of_archive(self.options.mtime)
         if not os.path.isdir(self.above):
             raise Refused(f"there is no such directory: {self.above}")
         self.data = definition_at(self.options.definition, lambda: program_at(self.options.llbm))
@@ -176,7 +176,7 @@ class Request:
             "result": os.path.abspath(self.result),
             "selected": [None if paths is None else digest_of(paths) for paths in self.selected],
             "sources": sources,
-            "time": times.time_of_archive(self.options.mtime) if self.ending else None,
-            "time is given": times.is_given(self.options.mtime) if self.ending else None,
+            "time": entry_times.time_of_archive(self.options.mtime) if self.ending else None,
+            "time is given": entry_times.is_given(self.options.mtime) if self.ending else None,
             "user": os.geteuid(),
         }

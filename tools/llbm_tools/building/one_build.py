@@ -5,10 +5,10 @@ import os
 import tempfile
 from typing import TYPE_CHECKING
 
-from llbm_tools.building import child_processes, folders, replaced_results, sources_by_value
+from llbm_tools.building import build_folders, child_processes, replaced_results, sources_by_value
+from llbm_tools.building.atomic_exchange import exchange
 from llbm_tools.building.build_requests import NOTHING, Ended, Request
 from llbm_tools.building.child_processes import held_back
-from llbm_tools.building.exchange import exchange
 from llbm_tools.building.given_sources import Given, stored_at
 from llbm_tools.building.kept_builds import Build as LastBuild
 from llbm_tools.building.kept_builds import forget, state_at
@@ -23,7 +23,7 @@ from llbm_tools.inputs import shown
 from llbm_tools.llb import source_names
 from llbm_tools.rules import notes
 from llbm_tools.streams import FAILED, REFUSED, program_at, program_to_ask, write_output
-from llbm_tools.trees import times
+from llbm_tools.trees import entry_times
 from llbm_tools.trees.content_tokens import Copier, Table
 from llbm_tools.trees.kept_sources import bytes_of
 from llbm_tools.trees.source_texts import Reading
@@ -62,9 +62,9 @@ class Build:
     def make_folders(self) -> None:
         """Makes the folder for the texts, and the one that becomes the result."""
         with held_back():
-            self.texts = folders.made(folders.TEXTS, tempfile.gettempdir())
+            self.texts = build_folders.made(build_folders.TEXTS, tempfile.gettempdir())
             above = self.texts if self.request.is_output else self.request.above
-            self.directory = folders.made(folders.RESULT, above)
+            self.directory = build_folders.made(build_folders.RESULT, above)
 
     def hidden(self) -> list[os.stat_result]:
         """Returns what is no part of a source."""
@@ -185,7 +185,7 @@ class Build:
 
     def write_archive(self, result: str, place: str) -> None:
         """Writes the result as an archive, which is packed or made the layer of an image if its name says so."""
-        form, time = packing.form_of_name(place), times.time_of_archive(self.options.mtime)
+        form, time = packing.form_of_name(place), entry_times.time_of_archive(self.options.mtime)
         is_image = self.request.ending == packing.IMAGE
         plain = os.path.join(self.directory, "plain") if form or is_image else place
         write_archive(result, plain, self.table(), time, self.options.largest)
@@ -198,7 +198,7 @@ class Build:
             # Few results are images.
             from llbm_tools.images import oci_layout
 
-            oci_layout.write(archive, packed, self.request.config, time, times.is_given(self.options.mtime))
+            oci_layout.write(archive, packed, self.request.config, time, entry_times.is_given(self.options.mtime))
 
     def pass_archive(self, place: str) -> None:
         """Writes the archive to standard output."""

@@ -12,7 +12,7 @@ import binascii
 import os
 from collections.abc import Iterable
 
-from llbm_tools.building import child_processes, folders, replaced_results
+from llbm_tools.building import build_folders, child_processes, replaced_results
 from llbm_tools.building.build_requests import Named, Request
 from llbm_tools.building.kept_builds import Build, forget, state_at
 from llbm_tools.building.kept_changes import Changes, Memory
@@ -115,7 +115,7 @@ def renew(request: Request, memory: Memory, changes: Changes) -> bool:
     A result that gets too large has to be refused, so it is made, and measured, as a whole.
     """
     with child_processes.held_back():
-        folder = folders.made(folders.RESULT, request.above)
+        folder = build_folders.made(build_folders.RESULT, request.above)
     try:
         renewal = Renewal(changes, request.sources)
         try:

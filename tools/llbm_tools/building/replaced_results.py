@@ -8,9 +8,9 @@ import itertools
 import os
 from collections.abc import Callable, Iterable, Iterator
 
+from llbm_tools.building.atomic_exchange import exchange
 from llbm_tools.building.child_processes import held_back, ignore_signals
 from llbm_tools.building.entry_writing import Files, finish_directories, make_directories, not_written
-from llbm_tools.building.exchange import exchange
 from llbm_tools.building.result_texts import Line, parent_of, read_line
 from llbm_tools.common import say
 from llbm_tools.trees.content_tokens import DIRECTORY, Below, Table

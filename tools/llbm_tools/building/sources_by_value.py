@@ -9,8 +9,8 @@ from collections.abc import Iterator
 from typing import NamedTuple
 
 from llbm_tools.llb import definition, op_reading
-from llbm_tools.llb.asking import ask
 from llbm_tools.llb.ops import LOCAL, Op
+from llbm_tools.llb.program_questions import ask
 
 NO_SOURCE = "no local source has this name"
 VALUE, DIGEST, CACHE, NONE = "value", "digest", "cache", "-"

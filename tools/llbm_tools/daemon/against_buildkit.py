@@ -47,9 +47,9 @@ from llbm_tools import common
 from llbm_tools.command_line import Parser
 from llbm_tools.counts import Counts
 from llbm_tools.daemon import daemon as daemons
-from llbm_tools.daemon import debian_packages, fixed_sets, project_dockerfiles, random_definitions, random_dockerfiles
-from llbm_tools.daemon import runs, started_daemon
-from llbm_tools.daemon.cases import NO_EXECUTION, Case, Lines, Verdict, lines_of
+from llbm_tools.daemon import debian_packages, fixed_comparisons, project_dockerfiles, random_definitions
+from llbm_tools.daemon import random_dockerfiles, runs, started_daemon
+from llbm_tools.daemon.compared_cases import NO_EXECUTION, Case, Lines, Verdict, lines_of
 from llbm_tools.daemon.runs import LINKED, MOST_SECONDS, Daemon, DaemonBusy, DaemonLost, Ran
 from llbm_tools.daemon.started_daemon import Started
 from llbm_tools.definitions import adopted_ops
@@ -240,10 +240,10 @@ def verdicts(one: Comparison, options: argparse.Namespace) -> Iterator[tuple[Cas
 def fixed(theirs: Started, ours: Daemon, options: argparse.Namespace) -> Iterator[tuple[Case, Verdict]]:
     """Yields the cases of the fixed sets that are asked for."""
     if options.links:
-        yield from fixed_sets.of_exporters(theirs.daemon, ours)
-        yield from fixed_sets.of_links(theirs, ours, rules_that_warn())
+        yield from fixed_comparisons.of_exporters(theirs.daemon, ours)
+        yield from fixed_comparisons.of_links(theirs, ours, rules_that_warn())
     if options.dockerfiles:
-        files = fixed_sets.Dockerfiles(theirs, ours)
+        files = fixed_comparisons.Dockerfiles(theirs, ours)
         yield from files.verdicts()
         print(files.line(), flush=True)
 

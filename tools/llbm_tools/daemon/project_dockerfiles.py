@@ -4,8 +4,8 @@ heredocs, owners by name, `--parents`, `--exclude`, a .dockerignore and archives
 import io
 import tarfile
 
-from llbm_tools.daemon.random_dockerfiles import Made
 from llbm_tools.daemon.runs import link_to
+from llbm_tools.daemon.random_dockerfiles import Made
 from llbm_tools.trees import tree_maps
 from llbm_tools.trees.tree_maps import ROOT, Tree
 

@@ -10,8 +10,8 @@ import random
 from typing import NamedTuple
 
 from llbm_tools.daemon import random_archives
-from llbm_tools.daemon.random_definitions import TARGETS
 from llbm_tools.daemon.runs import link_to
+from llbm_tools.daemon.random_definitions import TARGETS
 from llbm_tools.trees.tree_maps import Entry, Path, Tree
 
 NAMES = ["a", "b", "c", "d"]

@@ -13,8 +13,8 @@ from typing import NamedTuple
 from llbm_tools import common
 from llbm_tools.daemon import buildkitd, debian_packages, link_cases
 from llbm_tools.daemon import daemon as daemons
-from llbm_tools.daemon.go_building import OUT, NotBuilt
 from llbm_tools.daemon.runs import Daemon, DaemonBusy, DaemonLost
+from llbm_tools.daemon.go_building import OUT, NotBuilt
 from llbm_tools.rules import examples
 
 MEMORY = pathlib.Path("/dev/shm")

@@ -11,11 +11,11 @@ from collections.abc import Callable
 from llbm_tools import commands
 from llbm_tools.debugging import completion, console, launching
 from llbm_tools.debugging.adapter_state import Held
-from llbm_tools.debugging.arguments import Object, argument
 from llbm_tools.debugging.capabilities import CAPABILITIES, FAILED
 from llbm_tools.debugging.data_breakpoints import Watching
 from llbm_tools.debugging.inspection_requests import Inspecting
 from llbm_tools.debugging.protocol_messages import Writer
+from llbm_tools.debugging.request_arguments import Object, argument
 from llbm_tools.debugging.run_control import Ended, Motion, Mover, Stop
 from llbm_tools.debugging.variables import Views
 from llbm_tools.sessions.session import Event, Refusal, SessionFailed

@@ -4,8 +4,8 @@ import os
 from typing import NamedTuple
 
 from llbm_tools.debugging import launching
-from llbm_tools.debugging.arguments import Object, argument
 from llbm_tools.debugging.protocol_messages import Writer
+from llbm_tools.debugging.request_arguments import Object, argument
 from llbm_tools.debugging.responses import Outgoing
 from llbm_tools.debugging.run_control import Motion, Mover, Stop
 from llbm_tools.debugging.variables import Views

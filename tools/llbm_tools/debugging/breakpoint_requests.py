@@ -3,7 +3,7 @@
 import re
 
 from llbm_tools.debugging import launching
-from llbm_tools.debugging.arguments import Object, argument, of_kind
+from llbm_tools.debugging.request_arguments import Object, argument, of_kind
 from llbm_tools.debugging.breakpoints import (
     Breakpoint, NoBreakpoint, Wanted, made, step_at, vertices_at_line, vertices_named, vertices_of_rows, wanted_of,
 )

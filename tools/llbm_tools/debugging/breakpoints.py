@@ -10,7 +10,7 @@ from collections.abc import Callable
 from typing import NamedTuple
 
 from llbm_tools.debugging import conditions, step_lines
-from llbm_tools.debugging.arguments import argument, of_kind
+from llbm_tools.debugging.request_arguments import argument, of_kind
 from llbm_tools.debugging.vertex_lines import Graph
 from llbm_tools.llb import definition
 from llbm_tools.sessions.session import Event

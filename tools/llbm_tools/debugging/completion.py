@@ -3,7 +3,7 @@
 import re
 
 from llbm_tools.debugging import shown_trees
-from llbm_tools.debugging.arguments import Object
+from llbm_tools.debugging.request_arguments import Object
 from llbm_tools.debugging.variables import Views
 
 # The commands, each with what its words are.

@@ -5,11 +5,11 @@ would do to the trees where a run has stopped.
 from typing import NamedTuple
 
 from llbm_tools.debugging import launching, path_breakpoints, tried_commands
-from llbm_tools.debugging.arguments import Object, argument, of_kind
 from llbm_tools.debugging.breakpoint_requests import Breaking
 from llbm_tools.debugging.breakpoints import Condition, NoBreakpoint, condition_of
 from llbm_tools.debugging.event_lines import change_line
 from llbm_tools.debugging.protocol_messages import Writer
+from llbm_tools.debugging.request_arguments import Object, argument, of_kind
 from llbm_tools.debugging.run_control import Stop
 from llbm_tools.sessions.session import Event
 from llbm_tools.streams import Refused

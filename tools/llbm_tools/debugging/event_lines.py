@@ -3,8 +3,8 @@ BuildKit."""
 
 from collections.abc import Iterator
 
-from llbm_tools.debugging.changes import Change, Compared
 from llbm_tools.debugging.last_event import Happened
+from llbm_tools.debugging.tree_changes import Change, Compared
 from llbm_tools.rules.rule_words import more_paths
 
 

@@ -2,7 +2,7 @@
 
 from llbm_tools.debugging import console
 from llbm_tools.debugging.adapter_state import FIRST_FILE, TEXT, Holding
-from llbm_tools.debugging.arguments import Object, argument
+from llbm_tools.debugging.request_arguments import Object, argument
 from llbm_tools.debugging.step_lines import Span, spans_of, step_shown
 from llbm_tools.streams import Refused
 

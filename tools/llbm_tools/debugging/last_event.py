@@ -8,9 +8,9 @@ import re
 from collections.abc import Mapping
 from typing import IO, NamedTuple
 
-from llbm_tools.debugging import changes, vertex_failures, worker_trees
+from llbm_tools.debugging import tree_changes, vertex_failures, worker_trees
 from llbm_tools.debugging.buildkit_comparison import BuildkitComparison
-from llbm_tools.debugging.changes import Compared
+from llbm_tools.debugging.tree_changes import Compared
 from llbm_tools.debugging.vertex_lines import Graph, Vertex
 from llbm_tools.llb import definition
 from llbm_tools.llb.ops import Mount
@@ -80,7 +80,7 @@ def compared(name: str, before: Flat, after: Flat, most: int) -> Compared:
         return Compared(name, [], {}, f"not compared: {before}")
     if isinstance(after, str):
         return Compared(name, [], {}, f"not compared: {after}")
-    return changes.compared(name, before, after, most)
+    return tree_changes.compared(name, before, after, most)
 
 
 class Watch:

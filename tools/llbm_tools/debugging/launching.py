@@ -18,9 +18,9 @@ from typing import IO, NamedTuple
 
 from llbm_tools.common import program_named, shortened
 from llbm_tools.debugging import vertex_lines
-from llbm_tools.debugging.arguments import Object, argument, of_kind
 from llbm_tools.debugging.original_files import Origins, origins_of
 from llbm_tools.debugging.raw_entries import readable
+from llbm_tools.debugging.request_arguments import Object, argument, of_kind
 from llbm_tools.definitions import faults, next_commands
 from llbm_tools.inputs import data_at, is_standard_input, opened_file
 from llbm_tools.llb import definition, given_definitions, names, no_definition, source_names

@@ -7,8 +7,8 @@ costs the texts of the trees that its worker works on, twice.
 from typing import NamedTuple
 
 from llbm_tools.common import names_in
-from llbm_tools.debugging.changes import Change
 from llbm_tools.debugging.last_event import Happened, Watch
+from llbm_tools.debugging.tree_changes import Change
 from llbm_tools.sessions.session import Event
 
 # No tree has as many paths: all changes are looked at.

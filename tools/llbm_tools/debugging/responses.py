@@ -1,8 +1,8 @@
 """What an adapter sends: responses and events of the protocol."""
 
 from llbm_tools.common import printable
-from llbm_tools.debugging.arguments import Object
 from llbm_tools.debugging.protocol_messages import Writer
+from llbm_tools.debugging.request_arguments import Object
 
 FAILURE = 1
 

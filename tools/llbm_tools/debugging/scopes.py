@@ -5,11 +5,11 @@ from collections.abc import Callable
 from typing import Protocol
 
 from llbm_tools.common import printable, shortened
-from llbm_tools.debugging import changes, last_event, shown_trees, worker_trees
-from llbm_tools.debugging.arguments import Object
-from llbm_tools.debugging.changes import Change, Compared
+from llbm_tools.debugging import last_event, shown_trees, tree_changes, worker_trees
 from llbm_tools.debugging.last_event import Happened, Tree, Watch
 from llbm_tools.debugging.launching import Launched
+from llbm_tools.debugging.request_arguments import Object
+from llbm_tools.debugging.tree_changes import Change, Compared
 
 MOST_OF_A_VALUE = 2_000
 
@@ -124,7 +124,7 @@ class RunScopes:
         """Returns the variable for a path that changed; it expands to the entry before and after."""
         variable = plain(f"{tree}: {change.path}", shortened(change.shown(), MOST_OF_A_VALUE))
         pairs = [("before", change.before), ("after", change.after)]
-        if change.kind != changes.CHANGED:
+        if change.kind != tree_changes.CHANGED:
             return variable
-        shown = [plain(name, changes.entry_text(node)) for name, node in pairs]
+        shown = [plain(name, tree_changes.entry_text(node)) for name, node in pairs]
         return variable | {"variablesReference": self.views.reference(lambda: shown), "namedVariables": 2}

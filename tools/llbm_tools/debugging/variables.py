@@ -6,8 +6,8 @@ from collections.abc import Callable
 
 from llbm_tools.common import names_in, printable, shortened
 from llbm_tools.debugging import shown_trees, vertex_failures, worker_trees
-from llbm_tools.debugging.arguments import Object
 from llbm_tools.debugging.launching import Launched
+from llbm_tools.debugging.request_arguments import Object
 from llbm_tools.debugging.scopes import RunScopes
 from llbm_tools.llb import definition
 from llbm_tools.streams import Refused

@@ -37,6 +37,7 @@ from llbm_tools import common, inputs
 from llbm_tools.command_line import Parser
 from llbm_tools.definitions import adopted_ops, adoption_rules
 from llbm_tools.llb import no_definition
+from llbm_tools.llb.given_definitions import definition_at
 from llbm_tools.llb.findings import Finding
 from llbm_tools.llb.wire import Unreadable
 from llbm_tools.streams import Refused, exit_status, of_place, program_to_ask
@@ -154,8 +155,7 @@ def adopt(options: argparse.Namespace) -> None:
         inputs.check_inputs(options.definition, options.rules)
     llbm = program_to_ask(options.llbm)
     settings = settings_from(options, llbm)
-    data = inputs.data_at(options.definition)
-    no_definition.check(data, options.definition)
+    data = definition_at(options.definition, lambda: llbm)
     try:
         adopted = adopted_ops.adopt(data, settings, llbm)
     except Unreadable as fault:

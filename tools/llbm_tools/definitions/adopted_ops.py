@@ -14,7 +14,7 @@ from typing import NamedTuple
 
 from llbm_tools.common import shortened
 from llbm_tools.definitions.adoption_rules import Rule, rule_for
-from llbm_tools.llb import definition, names, op_reading, reachable, wire
+from llbm_tools.llb import definition, names, needed_rows, op_reading, wire
 from llbm_tools.llb.findings import Finding, findings_of
 from llbm_tools.llb.local_names import LocalNames, can_be_given, is_known
 from llbm_tools.llb.ops import LOCAL, SECRET, ChownOpt, ExecOp, FileAction, Mount, Op, fields_of
@@ -202,7 +202,7 @@ class Adoption:
         self.digests = [definition.digest_of(entry) for entry in self.entries]
         self.names = [name.text for name in names.names_of(data)]
         self.settings = settings
-        found = reachable.Rows(self.entries)
+        found = needed_rows.Rows(self.entries)
         self.rows = found.named
         self.ops = found.ops
         self.reached = found.reached()

@@ -13,7 +13,7 @@ from typing import NamedTuple
 
 from llbm_tools import inputs
 from llbm_tools.definitions.matched_vertices import DIGEST
-from llbm_tools.llb.asking import ask
+from llbm_tools.llb.program_questions import ask
 
 LINE = re.compile(rf"[0-9]+ ({DIGEST}) agrees yes")
 

@@ -1,8 +1,8 @@
 """Prints the entries of any definition, whether or not the program accepts it, and answers queries of its graph.
 
-In: a definition, on standard input or in the file DEFINITION. `--before V`, `--after V` and `--between V W` ask for the
-entries that V needs, for those that need V, and for a shortest path from V to W, which needs V. V is the number of a
-vertex, the row of an entry (`%K`), a digest (8 digits or more) or a name.
+In: a definition, or the text of one, on standard input or in the file DEFINITION. `--before V`, `--after V` and
+`--between V W` ask for the entries that V needs, for those that need V, and for a shortest path from V to W, which
+needs V. V is the number of a vertex, the row of an entry (`%K`), a digest (8 digits or more) or a name.
 
 Out: on standard output each entry in the order of the rows: a line with its row, its vertex if it has one, its kind and
 its digest; below it its name, its inputs, all fields of its op and its metadata that BuildKit's `solver/pb/ops.proto`
@@ -24,10 +24,10 @@ from collections.abc import Iterable, Iterator
 from llbm_tools.command_line import Parser
 from llbm_tools.common import printable, say
 from llbm_tools.definitions import faults, inspection
+from llbm_tools.definitions.graph_queries import Links, chosen
 from llbm_tools.definitions.inspection import Edge, Entry, Inspected
-from llbm_tools.definitions.queries import Links, chosen
-from llbm_tools.inputs import data_at
 from llbm_tools.llb import messages, names, whole_messages
+from llbm_tools.llb.given_definitions import definition_at
 from llbm_tools.llb.wire import Unreadable
 from llbm_tools.streams import exit_status, program_to_ask, write_output
 
@@ -164,8 +164,9 @@ def lines_of(inspected: Inspected, metadata: dict[str, bytes]) -> Iterator[str]:
 
 def dump(options: argparse.Namespace) -> int:
     """Prints what is asked for, and returns the exit status."""
-    data = data_at(options.definition)
-    inspected = inspection.inspected(data, options.definition, program_to_ask(options.llbm))
+    llbm = program_to_ask(options.llbm)
+    data = definition_at(options.definition, lambda: llbm)
+    inspected = inspection.inspected(data, options.definition, llbm)
     metadata = metadata_at(data)
     found = found_by(options, inspected)
     entries = inspected.entries if found is None else found

@@ -10,9 +10,9 @@ from collections.abc import Callable
 from typing import NamedTuple
 
 from llbm_tools.common import MOST_NAMES, names_in, printable
-from llbm_tools.inputs import data_at
 from llbm_tools.llb import definition, names, op_reading
 from llbm_tools.llb.findings import Finding, findings_of
+from llbm_tools.llb.given_definitions import bytes_at
 from llbm_tools.llb.ops import FileAction, Op
 from llbm_tools.llb.wire import Unreadable
 from llbm_tools.paths import ROOT
@@ -467,7 +467,7 @@ class Explainer:
         self.entries: Entries | None = None
         self.cause = ""
         if file is not None:
-            self.take(data_at(file))
+            self.take(bytes_at(file, program))
 
     def take(self, data: bytes) -> None:
         """Reads a definition; if it is not one, stores why."""

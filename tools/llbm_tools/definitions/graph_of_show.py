@@ -29,6 +29,7 @@ from llbm_tools.command_line import Parser
 from llbm_tools.definitions import graphviz, inspected_graph, inspection
 from llbm_tools.inputs import check_inputs, check_there, data_at, input_lines
 from llbm_tools.llb import definition, names, no_definition
+from llbm_tools.llb.given_definitions import definition_at
 from llbm_tools.llb.ops import Op
 from llbm_tools.llb.wire import Unreadable
 from llbm_tools.sessions.shows import Edge, Show, Vertex, show_of
@@ -54,11 +55,11 @@ def check(show: Show, graph: definition.Graph, ops: list[Op]) -> None:
             raise Refused(f"vertex {vertex.number} is another one in the definition")
 
 
-def labels_of(show: Show, file: str | None) -> list[list[str]]:
+def labels_of(show: Show, file: str | None, llbm: str | None) -> list[list[str]]:
     """Returns what the labels have after number and kind."""
     if file is None:
         return [counts_of(vertex) for vertex in show.vertices]
-    data = data_at(file)
+    data = definition_at(file, lambda: program_to_ask(llbm))
     try:
         entries = definition.entries_of(data)
         graph = definition.graph_of(entries)
@@ -126,13 +127,14 @@ def drawn(options: argparse.Namespace) -> str:
     if options.file is not None:
         if options.definition is not None or options.impact is not None:
             raise Refused("DEFINITION is drawn alone, without --definition and --impact")
-        inspected = inspection.inspected(data_at(options.file), options.file, program_to_ask(options.llbm))
-        return inspected_graph.digraph(inspected)
+        llbm = program_to_ask(options.llbm)
+        data = definition_at(options.file, lambda: llbm)
+        return inspected_graph.digraph(inspection.inspected(data, options.file, llbm))
     if options.definition is not None:
         check_inputs(None, options.definition)
         check_there(options.definition)
     show = show_of(b"".join(input_lines()).decode("ascii", "backslashreplace"))
-    return digraph(show, labels_of(show, options.definition), colors_of(show, options.impact))
+    return digraph(show, labels_of(show, options.definition, options.llbm), colors_of(show, options.impact))
 
 
 def draw(options: argparse.Namespace) -> None:

@@ -178,9 +178,9 @@ def compare(options: argparse.Namespace) -> None:
     found, changed = impacts_of(options, comparison)
     gone, result = comparison.gone(found), comparison.result(found)
     if options.run:
-        from llbm_tools.definitions import both_runs
+        from llbm_tools.definitions import compared_runs
 
-        found, word = both_runs.compared(program, comparison, data, (before, after), found)
+        found, word = compared_runs.compared(program, comparison, data, (before, after), found)
         result = result._replace(word=word)
     laws = laws_of(options.run)
     if options.json:

@@ -27,8 +27,9 @@ from llbm_tools.command_line import Parser
 from llbm_tools.definitions import inspection
 from llbm_tools.definitions.graph_of_show import check
 from llbm_tools.definitions.inspection import Entry
-from llbm_tools.inputs import check_inputs, check_there, data_at, input_lines
+from llbm_tools.inputs import check_inputs, check_there, input_lines
 from llbm_tools.llb import definition, names, no_definition
+from llbm_tools.llb.given_definitions import definition_at
 from llbm_tools.llb.names import Name
 from llbm_tools.llb.ops import LOCAL, Field, Message, Op, fields_of
 from llbm_tools.llb.wire import Unreadable
@@ -82,9 +83,9 @@ def entry_object(entry: bytes, op: Op, name: Name, description: dict[str, str]) 
     return {"row": name.row, "digest": definition.digest_of(entry), **shown, "op": message_object(op)}
 
 
-def entry_objects(show: Show, file: str) -> list[Members]:
+def entry_objects(show: Show, file: str, llbm: str | None) -> list[Members]:
     """Returns what the vertices have from the definition in a file."""
-    data = data_at(file)
+    data = definition_at(file, lambda: program_to_ask(llbm))
     try:
         entries = definition.entries_of(data)
         graph = definition.graph_of(entries)
@@ -112,7 +113,7 @@ def entry_in(entry: Entry, descriptions: dict[str, dict[str, str]]) -> Members:
 
 def json_of_any(file: str, program: str) -> str:
     """Returns the object of any definition, with one line for each entry."""
-    data = data_at(file)
+    data = definition_at(file, lambda: program)
     inspected, descriptions = inspection.inspected(data, file, program), names.descriptions_of(data)
     entries = ",\n".join(f"    {json.dumps(entry_in(one, descriptions))}" for one in inspected.below_terminal())
     result = json.dumps(inspected.result._asdict() if inspected.result else None)
@@ -121,9 +122,9 @@ def json_of_any(file: str, program: str) -> str:
     return f'{{\n  "entries": [\n{entries}\n  ],\n  "result": {result},\n  "refused": {json.dumps(refused)}\n}}\n'
 
 
-def json_of(show: Show, file: str | None) -> str:
+def json_of(show: Show, file: str | None, llbm: str | None) -> str:
     """Returns the object of a graph, with one line for each vertex."""
-    others = [{} for _ in show.vertices] if file is None else entry_objects(show, file)
+    others = [{} for _ in show.vertices] if file is None else entry_objects(show, file, llbm)
     objects = [{**vertex_object(vertex), **more} for vertex, more in zip(show.vertices, others)]
     vertices = ",\n".join(f"    {json.dumps(one)}" for one in objects)
     result = json.dumps(edge_object(show.result))
@@ -140,7 +141,7 @@ def converted(options: argparse.Namespace) -> str:
         check_inputs(None, options.definition)
         check_there(options.definition)
     show = show_of(b"".join(input_lines()).decode("ascii", "backslashreplace"))
-    return json_of(show, options.definition)
+    return json_of(show, options.definition, options.llbm)
 
 
 def convert(options: argparse.Namespace) -> None:

@@ -1,6 +1,6 @@
 """Prints everything that keeps llbm from accepting a definition, not only the first fault, and what has no effect.
 
-In: a definition, on standard input or in the file DEFINITION.
+In: a definition, or the text of one, on standard input or in the file DEFINITION.
 
 Out: on standard output a line for each finding, `fault NUMBER ..` in the words of the program, as `explain` reads them;
 then, after a tab, the name of the entry and its place in its source, if the definition has them. Characters that cannot
@@ -8,8 +8,8 @@ be printed are escaped. The program finds them (`show --findings`): --llbm PROGR
 repository. The first line is the fault that each other command of it prints. The others are sorted by entry, those
 without an entry first, and within an entry by the number of the fault. Each feature of fault 88 and each rule of fault
 89 is checked in each entry that is reachable from the result; an entry that is not an op, and an input that names no
-row, lead to none. Of an entry that is not an op only its first fault is printed. If the definition is a text, standard
-error says so.
+row, lead to none. Of an entry that is not an op only its first fault is printed. Of a text that makes no definition
+standard error says so.
 
 After the findings there is a line `note ENTRY NAME` for each field of such an entry that is set, has an effect in
 BuildKit and none here; `action N`, `mount N` or the key of an attribute may follow the name. With --like-buildkit there
@@ -26,10 +26,11 @@ import argparse
 import sys
 from typing import NamedTuple
 
-from llbm_tools import common, inputs, objects
+from llbm_tools import common, objects
 from llbm_tools.command_line import Parser
 from llbm_tools.llb import names, no_definition
 from llbm_tools.llb.findings import Finding, findings_of
+from llbm_tools.llb.given_definitions import bytes_at
 from llbm_tools.llb.wire import Unreadable
 from llbm_tools.rules import notes, rules_program
 from llbm_tools.streams import Refused, exit_status, program_to_ask
@@ -105,7 +106,8 @@ def parse_options() -> argparse.Namespace:
 
 def lint(options: argparse.Namespace) -> int:
     """Prints the findings, and returns the exit status."""
-    llbm, data = program_to_ask(options.llbm), inputs.data_at(options.definition)
+    llbm = program_to_ask(options.llbm)
+    data = bytes_at(options.definition, lambda: llbm)
     faults, noted = lines_of(data, llbm, options.like_buildkit)
     try:
         no_definition.check(data, options.definition)

@@ -9,8 +9,8 @@ import tempfile
 from collections.abc import Mapping
 
 from llbm_tools.llb import definition, messages, op_reading
-from llbm_tools.llb.asking import ask
 from llbm_tools.llb.ops import LOCAL
+from llbm_tools.llb.program_questions import ask
 from llbm_tools.llb.rewriting import changed, relinked, with_message, with_text
 from llbm_tools.llb.wire import Record
 

@@ -11,7 +11,7 @@ from typing import NamedTuple
 
 from llbm_tools.building import sources_by_value
 from llbm_tools.definitions import faults
-from llbm_tools.fuzzing import changed_inputs, made_inputs, tokens
+from llbm_tools.fuzzing import changed_inputs, made_inputs, token_texts
 from llbm_tools.fuzzing.limited_runs import Ran, Runner
 from llbm_tools.fuzzing.made_inputs import one_in
 from llbm_tools.fuzzing.run_checks import Broken, Graph, Rules, Session, caches_in, check_findings, need, tree_fault
@@ -251,11 +251,11 @@ class Case:
         plan = sources_by_value.plan_of(data, self.tried.runner.program)
         if plan is None or plan.all:
             return
-        table, short = tokens.Contents(), []
+        table, short = token_texts.Contents(), []
         for word in words:
             name, _, file = word.partition("=")
             text = self.tried.trees[file]
-            if plan.cause(os.fsencode(name)) and MARK in tokens.contents_in(text):
+            if plan.cause(os.fsencode(name)) and MARK in token_texts.contents_in(text):
                 return
             given = text if plan.cause(os.fsencode(name)) else table.with_tokens(text)
             short.append(f"{name}={self.file(f'short-{file}', given)}")

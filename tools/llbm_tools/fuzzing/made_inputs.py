@@ -5,7 +5,7 @@ All randomness comes from the generator that is passed in, so equal seeds make e
 
 import random
 
-from llbm_tools.fuzzing import applets
+from llbm_tools.fuzzing import applet_calls
 from llbm_tools.llb import messages
 from llbm_tools.llb.messages import Givens, Message, made
 
@@ -131,13 +131,13 @@ def file_op(dice: random.Random, inputs: tuple[Message, ...]) -> tuple[Message, 
 def call(dice: random.Random) -> list[str]:
     """Returns a call of an applet, now and then a wrong one."""
     words = []
-    for word in dice.choice(applets.calls()):
-        if word == applets.PATH:
+    for word in dice.choice(applet_calls.calls()):
+        if word == applet_calls.PATH:
             at = dice.choice(["", "", "", "/in", "/tmp", "/cache"])
             word = (at + path(dice)).replace(" ", "") or "/"
-        elif word == applets.MODE:
+        elif word == applet_calls.MODE:
             word = dice.choice(["0644", "7", "0777", "755", "4755", "0000"])
-        words.append(dice.choice(WORDS) if word == applets.WORD else word)
+        words.append(dice.choice(WORDS) if word == applet_calls.WORD else word)
     if one_in(dice, 60):
         words.insert(dice.randint(0, len(words)), dice.choice(STRANGE_WORDS + ["apk", "ls"]))
     if one_in(dice, 80):

@@ -10,7 +10,7 @@ import re
 from collections.abc import Iterator
 from typing import NamedTuple, TypeVar
 
-from llbm_tools.images.files import Files
+from llbm_tools.images.image_files import Files
 from llbm_tools.streams import Refused
 
 LAYOUT, INDEX, MANIFEST = "oci-layout", "index.json", "manifest.json"

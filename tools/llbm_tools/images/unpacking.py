@@ -9,7 +9,7 @@ from typing import BinaryIO
 
 from llbm_tools.common import say
 from llbm_tools.images import archives, manifests, packing
-from llbm_tools.images import files as image_files
+from llbm_tools.images import image_files
 from llbm_tools.images.archive_entries import Path, Placed, entries_of
 from llbm_tools.images.layers import Layers
 from llbm_tools.inputs import opened_file

@@ -116,8 +116,8 @@ def file_item(path: str, place: pathlib.Path) -> Item:
 def files_below(place: pathlib.Path) -> Iterator[pathlib.Path]:
     """Yields the files below a folder in order, without what Python and other programs keep there."""
     for file in sorted(place.rglob("*")):
-        kept = any(part == "__pycache__" or part.startswith(".") for part in file.relative_to(place).parts)
-        if file.is_file() and not kept:
+        is_left_out = any(part == "__pycache__" or part.startswith(".") for part in file.relative_to(place).parts)
+        if file.is_file() and not is_left_out:
             yield file
 
 

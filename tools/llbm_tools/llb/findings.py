@@ -4,7 +4,7 @@ from collections.abc import Iterator
 from typing import NamedTuple
 
 from llbm_tools.llb import definition
-from llbm_tools.llb.asking import ask
+from llbm_tools.llb.program_questions import ask
 from llbm_tools.streams import Failed
 
 DEFINITION, ENTRY, FEATURE, RULE = 81, 82, 88, 89

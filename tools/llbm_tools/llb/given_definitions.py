@@ -1,5 +1,6 @@
 """A definition as a person gives it: its bytes, or the text of its entries, which the program assembles."""
 
+import contextlib
 import subprocess
 from collections.abc import Callable
 
@@ -15,6 +16,15 @@ def assembled(program: str, text: bytes, place: str | None) -> bytes:
         why = done.stderr.decode("utf-8", "backslashreplace").strip()
         raise Refused(f"{no_definition.text_line(place)} ({why})")
     return done.stdout
+
+
+def bytes_at(place: str | None, program: Callable[[], str]) -> bytes:
+    """Returns the bytes of the definition at a place, or what is there if it is none; only a text needs the program."""
+    data = data_at(place)
+    if no_definition.is_text(data):
+        with contextlib.suppress(Refused):
+            return assembled(program(), data, shown(place))
+    return data
 
 
 def definition_at(place: str | None, program: Callable[[], str]) -> bytes:

@@ -45,7 +45,7 @@ from typing import NamedTuple
 
 from llbm_tools import common
 from llbm_tools.command_line import Parser
-from llbm_tools.daemon import buildkitd, daemon, debian_packages, go_building, runs, started_daemon
+from llbm_tools.daemon import buildkitd, daemon, runs, debian_packages, go_building, started_daemon
 from llbm_tools.daemon.go_building import OUT
 from llbm_tools.llb.messages import definition_of, edge, encoded, made
 from llbm_tools.measuring import large_definition
@@ -238,22 +238,22 @@ class Trial:
 
     def run_files(self, case: str, count: int, name: str, again: bool) -> None:
         """Builds a directory that the daemons have not seen, and again with a file changed if this is asked for."""
-        place = self.folder / case
-        if not place.exists():
-            make_files(place, max(1, count // self.part))
-        local = ["--local", f"{name}={place}"]
+        context = self.folder / case
+        if not context.exists():
+            make_files(context, max(1, count // self.part))
+        local = ["--local", f"{name}={context}"]
         for one in self.daemons:
             self.add(case, one, [copy_of(name)], *local)
         if again:
-            self.run_changed(place, name)
+            self.run_changed(context, name)
 
-    def run_changed(self, place: pathlib.Path, name: str) -> None:
+    def run_changed(self, context: pathlib.Path, name: str) -> None:
         """Builds a directory by docker-buildx, and again with a file changed, which is what is measured."""
         for one in self.daemons:
-            cost_of(one, self.folder, by_buildx(self.buildx, one, place), [DOCKERFILE])
-        (place / "d0000" / "f00").write_text(f"changed for {name}\n", "utf-8")
+            cost_of(one, self.folder, by_buildx(self.buildx, one, context), [DOCKERFILE])
+        (context / "d0000" / "f00").write_text(f"changed for {name}\n", "utf-8")
         for one in self.daemons:
-            self.note("changed", one, cost_of(one, self.folder, by_buildx(self.buildx, one, place), [DOCKERFILE]))
+            self.note("changed", one, cost_of(one, self.folder, by_buildx(self.buildx, one, context), [DOCKERFILE]))
 
     def name_builders(self) -> None:
         """Gives docker-buildx a builder for each daemon, with its name."""

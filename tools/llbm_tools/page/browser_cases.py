@@ -7,10 +7,10 @@ import io
 import tarfile
 
 from llbm_tools.page import (
-    assets, contrast, control_cases, editing, foreign, graphs, hostile, large, module_cases, orders, proof, served,
-    statement_cases, step_view_cases,
+    assets, contrast, control_cases, editing_cases, foreign_cases, graph_cases, hostile_cases, large_page_cases,
+    module_cases, order_cases, proof_cases, served_cases, statement_cases, step_view_cases,
 )
-from llbm_tools.page.driver import NARROW, WIDE, Page, check, same
+from llbm_tools.page.page_driver import NARROW, WIDE, Page, check, same
 
 TOUR_RECORD = [
     "claim 0 0", "step 0", "settle 0", "claim 0 1", "step 0", "settle 0", "claim 0 2", *["step 0"] * 6, "settle 0",
@@ -370,6 +370,7 @@ CASES = (
     the_start, the_tour_step_by_step, forth_and_back, another_way, a_failing_definition, a_definition_of_a_client,
     refused_files, a_source_without_a_tree, what_changed, caches_and_who_holds_them, sharing, the_keyboard,
     names_for_screen_readers, wide_and_narrow, a_trap, *statement_cases.CASES, *control_cases.CASES,
-    contrast.contrast_of_all_texts, *foreign.CASES, *served.CASES, *step_view_cases.CASES, *proof.CASES, *orders.CASES,
-    *graphs.CASES, *editing.CASES, *hostile.CASES, *large.CASES,
+    contrast.contrast_of_all_texts, *foreign_cases.CASES, *served_cases.CASES, *step_view_cases.CASES,
+    *proof_cases.CASES, *order_cases.CASES, *graph_cases.CASES, *editing_cases.CASES, *hostile_cases.CASES,
+    *large_page_cases.CASES,
 )  # fmt: skip

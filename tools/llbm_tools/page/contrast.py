@@ -4,8 +4,8 @@ The ratio is that of WCAG 2: 4.5 is wanted of each text, whatever its size, and 
 button, in both schemes of colors.
 """
 
-from llbm_tools.page import foreign
-from llbm_tools.page.driver import NARROW, WIDE, Page, same
+from llbm_tools.page import foreign_cases
+from llbm_tools.page.page_driver import NARROW, WIDE, Page, same
 
 LEAST = 4.5
 LEAST_OF_A_BORDER = 3
@@ -108,7 +108,7 @@ def check_views(page: Page, what: str) -> int:
         page.run(f"document.getElementById('{name}').showModal()")
         count += check_contrast(page, f"{what}, {name}")
         page.run(f"document.getElementById('{name}').close()")
-    foreign.draw(page, foreign.foreign_definition())
+    foreign_cases.draw(page, foreign_cases.foreign_definition())
     page.run("document.querySelector('[data-row=\"1\"] button').click()")
     page.run("document.getElementById('unproved').hidden = false")
     count += check_contrast(page, f"{what}, a refused definition")

@@ -4,9 +4,9 @@ import pathlib
 import shutil
 import tempfile
 
-from llbm_tools.page import assets, foreign
-from llbm_tools.page.driver import NARROW, WIDE, Page, check, same
-from llbm_tools.page.served import served
+from llbm_tools.page import assets, foreign_cases
+from llbm_tools.page.page_driver import NARROW, WIDE, Page, check, same
+from llbm_tools.page.served_cases import served
 
 OPEN_IS_SHOWN = "document.getElementById('open-view').open"
 # Each target of a pointer that is smaller than 24 pixels: a control, or the label around it. A link in a text may be.
@@ -107,7 +107,7 @@ def a_link_of_a_server_of_builds_has_no_secret(page: Page) -> None:
 def a_refused_definition_is_not_shared(page: Page) -> None:
     """Draws a definition that is refused: *Share* can't be used, also by its key."""
     page.example("merge")
-    foreign.draw(page, foreign.foreign_definition())
+    foreign_cases.draw(page, foreign_cases.foreign_definition())
     check(page.run("document.getElementById('to-share').disabled"), "it can be shared")
     page.press("h")
     check(not page.run("document.getElementById('share-view').open"), "the view Share is shown")

@@ -27,7 +27,7 @@ from llbm_tools.command_line import Parser
 from llbm_tools.counts import Counts
 from llbm_tools.page import assets, browser, module_cases, pictures
 from llbm_tools.page import browser_cases as page_cases
-from llbm_tools.page.driver import WIDE, Page, Wrong, same
+from llbm_tools.page.page_driver import WIDE, Page, Wrong, same
 from llbm_tools.streams import Failed, exit_status
 
 PLACE = module_cases.MODULE.parent

@@ -3,8 +3,8 @@
 import pathlib
 from collections.abc import Callable
 
-from llbm_tools.page.driver import NARROW, WIDE, Page
-from llbm_tools.page.graphs import open_text, wide_text
+from llbm_tools.page.graph_cases import open_text, wide_text
+from llbm_tools.page.page_driver import NARROW, WIDE, Page
 
 # Waits for the frames that show what changed last.
 SHOWN = "new Promise((done) => requestAnimationFrame(() => requestAnimationFrame(() => setTimeout(done, 150))))"

@@ -1,7 +1,7 @@
 """Tests in the browser that what the page says is true, and that its controls do what they show."""
 
 from llbm_tools.page import assets
-from llbm_tools.page.driver import Page, check, same
+from llbm_tools.page.page_driver import Page, check, same
 
 JUNK = b"\0junk" * 300
 SMALLEST = (390, 844)

@@ -2,7 +2,7 @@
 
 import base64
 
-from llbm_tools.page.driver import Page, check, same
+from llbm_tools.page.page_driver import Page, check, same
 
 # A picture of one red point, as PNG.
 POINT = base64.b64decode(

@@ -66,7 +66,7 @@ FEWER = 500
 BESIDE = 20
 FIXED = ("--links", "--dockerfiles")
 # Tests of the tools that compile a program of their own.
-COMPILES = ("compiling.losing",)
+COMPILES = ("compiling.lost_numbers",)
 JOBS = "RT_JOBS"
 PROOFS = ["rt", "ci"]
 

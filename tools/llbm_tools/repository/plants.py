@@ -51,7 +51,7 @@ class NotProved(Exception):
 
 
 class Answer(NamedTuple):
-    """What was found in a crate: the numbers of the table, and the bodies that prove."""
+    """What `rt plant` found in a crate: how many bodies it planted, what became of them, and which ones prove."""
 
     planted: int
     refused: int

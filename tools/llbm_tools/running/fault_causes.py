@@ -7,6 +7,7 @@ from collections.abc import Iterator
 from typing import NamedTuple
 
 from llbm_tools.common import MOST_BYTES, printable, shortened
+from llbm_tools.llb import no_definition
 from llbm_tools.llb.source_names import missing_notes, word_notes
 from llbm_tools.os_errors import in_words
 from llbm_tools.running.program_words import Words
@@ -14,7 +15,7 @@ from llbm_tools.trees import trees
 
 MOST_CHARACTERS = 80
 FAULT = re.compile(r"fault ([0-9]+)(?: ([0-9]+)\b)?")
-TREES, MISSING, UNREAD, WORDS, TOO_LONG, LINES = (31, 32, 33), 121, 181, 183, 185, (161, 162)
+TREES, NO_DEFINITION, MISSING, UNREAD, WORDS, TOO_LONG, LINES = (31, 32, 33), 81, 121, 181, 183, 185, (161, 162)
 
 
 class Run(NamedTuple):
@@ -91,6 +92,10 @@ def causes_of(run: Run, line: str) -> list[str]:
     number = int(fault[1]) if fault else 0
     if number == WORDS:
         return [run.words.refused] if run.words.refused else []
+    if number == NO_DEFINITION:
+        data = data_of(run)
+        place = run.words.file if run.words.command == "step" else None
+        return [no_definition.text_line(place)] if data is not None and no_definition.is_text(data) else []
     if number == MISSING:
         return [*missing_notes(data_of(run), run.words.names()), *of_words(run)]
     if number in (*TREES, UNREAD, TOO_LONG):

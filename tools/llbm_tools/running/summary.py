@@ -3,8 +3,8 @@
 from collections.abc import Iterator
 
 from llbm_tools.debugging import shown_trees, worker_trees
-from llbm_tools.debugging.changes import Compared
 from llbm_tools.debugging.last_event import Happened
+from llbm_tools.debugging.tree_changes import Compared
 from llbm_tools.sessions.session import Session, TooLarge
 
 # No tree has as many paths: all changes are counted.

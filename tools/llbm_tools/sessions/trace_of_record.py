@@ -19,12 +19,13 @@ from typing import NamedTuple
 
 from llbm_tools.command_line import Parser
 from llbm_tools.common import printable, shortened
-from llbm_tools.inputs import data_at, input_lines
+from llbm_tools.inputs import input_lines
 from llbm_tools.llb import definition, names, no_definition
+from llbm_tools.llb.given_definitions import definition_at
 from llbm_tools.llb.ops import Op
 from llbm_tools.llb.wire import Unreadable
 from llbm_tools.sessions.records import Event, Work, events_of, works_of
-from llbm_tools.streams import Refused, exit_status, write_output
+from llbm_tools.streams import Refused, exit_status, program_to_ask, write_output
 
 PROCESS = 0
 MOST_OF_A_NAME = 200
@@ -118,7 +119,7 @@ def json_of(events: list[Slice]) -> str:
 
 def vertices_in(file: str) -> list[Shown]:
     """Returns the vertices of the definition in a file."""
-    data = data_at(file)
+    data = definition_at(file, lambda: program_to_ask(None))
     try:
         return vertices_of(data)
     except Unreadable as fault:

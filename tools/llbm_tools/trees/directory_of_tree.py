@@ -24,7 +24,7 @@ from collections.abc import Iterable, Iterator
 from llbm_tools.command_line import Parser
 from llbm_tools.inputs import input_lines
 from llbm_tools.streams import Failed, Refused, exit_status, of_place, temporary_file
-from llbm_tools.trees import links, times
+from llbm_tools.trees import entry_times, links
 from llbm_tools.trees.trees import Entry, Names, check_into, entry_of, finish
 
 OPENING = os.O_RDONLY | os.O_CLOEXEC | os.O_NOFOLLOW | os.O_DIRECTORY
@@ -125,7 +125,9 @@ def parse_options() -> argparse.Namespace:
     """Parses the command line."""
     parser = Parser(description="Writes the tree text on standard input as a new directory.")
     parser.add_argument("directory", metavar="DIRECTORY", type=os.fsencode, help="the new directory")
-    parser.add_argument("--mtime", metavar="SECONDS", type=times.seconds_of, help="the time of every entry, since 1970")
+    parser.add_argument(
+        "--mtime", metavar="SECONDS", type=entry_times.seconds_of, help="the time of every entry, since 1970"
+    )
     parser.add_argument("--links", action="store_true", help="make symbolic links of what tools with --links wrote")
     return parser.parse_args()
 

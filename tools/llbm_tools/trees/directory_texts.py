@@ -16,8 +16,8 @@ from llbm_tools.common import MOST_BYTES, MOST_NAMES, is_name
 from llbm_tools.os_errors import in_words
 from llbm_tools.streams import Failed, of_place
 from llbm_tools.trees import links
-from llbm_tools.trees.attributes import attributes_of, path_in
 from llbm_tools.trees.content_tokens import DIRECTORY, FILE, MARK, Table, token
+from llbm_tools.trees.extended_attributes import attributes_of, path_in
 from llbm_tools.trees.kept_sources import Directory, Recorder
 from llbm_tools.trees.left_out import ATTRIBUTE, DEVICE, LINK, NO_NAME, PIPE, TOO_DEEP, Exclusion, LeftOut
 from llbm_tools.trees.trees import Owner, line_start

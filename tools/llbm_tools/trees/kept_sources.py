@@ -16,9 +16,9 @@ from collections.abc import Iterable, Iterator
 from typing import BinaryIO, NamedTuple
 
 from llbm_tools.streams import Failed, Refused
-from llbm_tools.trees.attributes import attributes_of, path_in
 from llbm_tools.trees.content_tokens import DIRECTORY, FILE, stamp_of
 from llbm_tools.trees.directory_states import BYTES, SECOND, STATE, state_of, states_in
+from llbm_tools.trees.extended_attributes import attributes_of, path_in
 
 PIECE = 1 << 20
 DIGEST = 32

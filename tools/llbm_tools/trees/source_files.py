@@ -7,6 +7,7 @@ from collections.abc import Callable, Mapping
 
 from llbm_tools.inputs import opened_file
 from llbm_tools.streams import Failed, Refused
+from llbm_tools.trees import trees
 from llbm_tools.trees.content_tokens import Table
 from llbm_tools.trees.directory_texts import Values
 from llbm_tools.trees.source_texts import TEXT, Reading, Source, kind_of
@@ -34,6 +35,7 @@ def source_file(name: str, path: str, place: str, say: Say, selected: Selected =
     said: list[str] = []
     try:
         if kind_of(path) == TEXT:
+            trees.check_length(path)
             with opened_file(path):
                 return path
         with open(place, "wb") as text, contextlib.ExitStack() as kept:

@@ -26,7 +26,7 @@ from llbm_tools.command_line import Parser
 from llbm_tools.images import archive_writing, packing
 from llbm_tools.inputs import input_lines
 from llbm_tools.streams import exit_status, temporary_file, write_new_file, write_output
-from llbm_tools.trees import links, times
+from llbm_tools.trees import entry_times, links
 from llbm_tools.trees.trees import Entry, check_into, entry_of
 
 
@@ -62,7 +62,7 @@ def form_of(options: argparse.Namespace) -> packing.Form | None:
 
 def write_checked(options: argparse.Namespace) -> None:
     """Writes the archive of the text on standard input, once all of the text is checked."""
-    form, time = form_of(options), times.time_of_archive(options.mtime)
+    form, time = form_of(options), entry_times.time_of_archive(options.mtime)
     files = [temporary_file("the text"), temporary_file("the archive"), temporary_file("the archive")]
     with files[0] as text, files[1] as plain, files[2] as packed:
         check_into(text, input_lines())
@@ -82,7 +82,9 @@ def parse_options() -> argparse.Namespace:
     """Parses the command line."""
     parser = Parser(description="Writes the tree text on standard input as a tar archive.")
     parser.add_argument("archive", metavar="ARCHIVE", nargs="?", help="the new file (default: standard output)")
-    parser.add_argument("--mtime", metavar="SECONDS", type=times.seconds_of, help="the time of every entry, since 1970")
+    parser.add_argument(
+        "--mtime", metavar="SECONDS", type=entry_times.seconds_of, help="the time of every entry, since 1970"
+    )
     parser.add_argument("--links", action="store_true", help="write symbolic links of what tools with --links wrote")
     parser.add_argument("--pack", metavar="FORM", choices=packing.NAMES, help=f"one of {', '.join(packing.NAMES)}")
     return parser.parse_args()

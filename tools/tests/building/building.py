@@ -10,7 +10,7 @@ import subprocess
 
 from tests import base
 from tests.base import command, run
-from tests.trees.archives import entry, tar
+from tests.trees.tar_tools import entry, tar
 
 FAKE = f"""{base.FAKE_PYTHON}
 import os, signal, time

@@ -5,12 +5,12 @@ import os
 import shutil
 import stat
 
-from llbm_tools.building import exchange, kept_builds, kept_changes, replaced_results
+from llbm_tools.building import atomic_exchange, kept_builds, kept_changes, replaced_results
 from llbm_tools.trees import directory_states, kept_sources
 from tests import base
 from tests.base import run
 from tests.building.building import Builds
-from tests.trees.archives import entry, tar
+from tests.trees.tar_tools import entry, tar
 
 # The fake program copies its source to its result, and notes each run.
 COPIES = """
@@ -330,15 +330,15 @@ class Parts(base.Folder):
             self.assertEqual(replaced_results.common_place(places), wanted)
 
     def test_an_exchange_without_the_kernel_is_two_steps(self):
-        self.addCleanup(setattr, exchange, "kernel_call", exchange.kernel_call)
+        self.addCleanup(setattr, atomic_exchange, "kernel_call", atomic_exchange.kernel_call)
         one, two = os.fsdecode(self.file(b"one", b"1")), os.fsdecode(self.file(b"two", b"2"))
-        self.assertTrue(exchange.exchange(one, two))
-        exchange.kernel_call = lambda: None
-        self.assertFalse(exchange.exchange(one, two))
+        self.assertTrue(atomic_exchange.exchange(one, two))
+        atomic_exchange.kernel_call = lambda: None
+        self.assertFalse(atomic_exchange.exchange(one, two))
         with open(one, "rb") as first, open(two, "rb") as second:
             self.assertEqual((first.read(), second.read()), (b"1", b"2"))
         with self.assertRaises(OSError):
-            exchange.exchange(os.fsdecode(self.place(b"none")), two)
+            atomic_exchange.exchange(os.fsdecode(self.place(b"none")), two)
         self.assertEqual(sorted(os.listdir(self.folder)), [b"one", b"two"])
 
     def test_what_is_kept_is_read_back(self):

@@ -3,7 +3,7 @@
 import os
 import re
 
-from llbm_tools.daemon import random_definitions, runs
+from llbm_tools.daemon import runs, random_definitions
 from llbm_tools.llb.findings import findings_of
 from llbm_tools.rules.examples import examples
 from llbm_tools.trees import tree_maps

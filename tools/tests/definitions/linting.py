@@ -380,9 +380,20 @@ class Lint(base.WithProgram):
             ["json-of-show", "--definition"], ["trace-of-record", "--definition"],
         ]:
             shown = b"0 merge steps 0 outputs 1 inputs -\nresult 0.0\n"
-            self.check_run(run(*words, place, text=shown), 2, b"", done.stderr)
+            self.check_run(run(*words, place, text=shown), 2, b"", done.stderr[:-1] + b" (fault 161 1 Syntax)\n")
             other = run(*words, self.place(b"other"), text=shown)
             self.check_run(other, 2, b"", line)
+
+    def test_a_text_of_entries_is_taken_as_its_definition(self):
+        place, text = EXAMPLES / "tour.definition", EXAMPLES / "tour.text"
+        shown = subprocess.run([base.llbm, "show"], input=place.read_bytes(), capture_output=True).stdout
+        for words in [
+            ["lint"], ["dump"], ["adopt"], ["graph-of-show"], ["json-of-show"], ["graph-of-show", "--definition"],
+            ["json-of-show", "--definition"], ["explain", "failed", "2", "command", "1", "status", "1", "--definition"],
+        ]:
+            done = run(*words, place, text=shown)
+            self.assertEqual(done.returncode, 0, done.stderr)
+            self.check_run(run(*words, text, text=shown), 0, done.stdout, done.stderr)
 
     def test_command_lines_and_closed_streams_are_refused(self):
         self.assertEqual(run("lint", "a", "b").returncode, 2)

@@ -7,7 +7,7 @@ import re
 import unittest
 
 from llbm_tools.definitions import faults
-from llbm_tools.fuzzing import applets, run_checks
+from llbm_tools.fuzzing import applet_calls, run_checks
 from llbm_tools.fuzzing import changed_inputs as fuzz_changed
 from llbm_tools.fuzzing import made_inputs as fuzz_made
 from llbm_tools.fuzzing.limited_runs import Ran
@@ -36,11 +36,11 @@ class Applets(base.WithProgram):
             ("`test -e P`, `-f P`", [("test", "-e", "P"), ("test", "-f", "P")]), ("`write P W`", [("write", "P", "W")]),
             ("`concat OUT A ...`", [("concat", "P", "P"), ("concat", "P", "P", "P")]),
         ]:
-            self.assertEqual(list(applets.calls_in(cell)), calls)
+            self.assertEqual(list(applet_calls.calls_in(cell)), calls)
 
     def test_all_calls_are_scripts(self):
-        words = {applets.PATH: "/a", applets.WORD: "b", applets.MODE: "0755"}
-        calls = [tuple(words.get(word, word) for word in call) for call in applets.calls()]
+        words = {applet_calls.PATH: "/a", applet_calls.WORD: "b", applet_calls.MODE: "0755"}
+        calls = [tuple(words.get(word, word) for word in call) for call in applet_calls.calls()]
         self.assertEqual((scripts.faults_of(calls, base.llbm), len({call[0] for call in calls})), ({}, 13))
 
 

@@ -7,7 +7,7 @@ import os
 import pathlib
 from typing import NamedTuple
 
-from tests.trees.archives import entry, tar
+from tests.trees.tar_tools import entry, tar
 
 MANIFEST = "application/vnd.oci.image.manifest.v1+json"
 INDEX = "application/vnd.oci.image.index.v1+json"

@@ -15,7 +15,7 @@ from tests import base
 from tests.base import IS_ROOT, Folder, run
 from tests.images import image_parts
 from tests.images.image_parts import image, layout, saved
-from tests.trees.archives import entry, other, tar
+from tests.trees.tar_tools import entry, other, tar
 
 LEFT = "left out: nothing"
 ROOT = "d 0755 0 0 /"

@@ -12,9 +12,9 @@ from unittest import mock
 from llbm_tools.definitions import adopted_ops
 from llbm_tools.fuzzing import changed_inputs
 from llbm_tools.llb import wire
-from llbm_tools.llb.asking import ask
 from llbm_tools.llb.findings import findings_of
-from llbm_tools.page import assets, foreign
+from llbm_tools.llb.program_questions import ask
+from llbm_tools.page import assets, foreign_cases
 from tests import base
 from tests.base import ROOT, Folder
 from tests.definitions import adopting as adopt_tests
@@ -54,7 +54,7 @@ def lines_of(found):
 def adoption_of(data):
     """Returns what `adopt --all` makes of a definition, or None if it refuses to read it."""
     try:
-        made = adopted_ops.adopt(data, foreign.ALL, base.llbm)
+        made = adopted_ops.adopt(data, foreign_cases.ALL, base.llbm)
     except wire.Unreadable:
         return None
     told = [list(one) for one in made.sources]

@@ -12,7 +12,7 @@ import unittest
 
 from llbm_tools.compiling import library_code, unproved_code
 from llbm_tools.llb import names
-from llbm_tools.llb.asking import ask
+from llbm_tools.llb.program_questions import ask
 from llbm_tools.page import assets, fault_sentences, wasm_module
 from llbm_tools.streams import Failed
 from tests import base

@@ -118,6 +118,13 @@ class Run(Folder):
     def test_the_faulty_line_of_a_text_is_shown(self):
         self.assertEqual(self.added("fault 161 2 Syntax", "asm", text=b"op {\n}}\n")[0], "line 2: }}")
 
+    def test_a_text_in_the_place_of_a_definition_is_named(self):
+        line = "not the bytes of a definition but a text: {}; `llbm asm` makes a definition of a text of entries,"
+        self.assertTrue(self.added("fault 81 4", "run", text=b"op {\n}\n")[0].startswith(line.format("standard input")))
+        place = os.fsdecode(self.file(b"text", b"op {\n}\n"))
+        self.assertTrue(self.added("fault 81 4", "step", place)[0].startswith(line.format(place)))
+        self.assertTrue(self.added("fault 81 4", "run", text=b"\x00\xff")[0].startswith("81"))
+
     def test_all_missing_sources_are_named(self):
         one, two = base.source("local://a"), base.source("local://b")
         data = base.ending(one, two, base.merge(one, two))

@@ -5,7 +5,7 @@ import json
 import os
 
 from tests.base import Folder, run, run_closed, run_into
-from tests.trees.archives import entry, other, tar, tarfile
+from tests.trees.tar_tools import entry, other, tar, tarfile
 
 NOTHING = b"left out: nothing\n"
 

@@ -2,7 +2,7 @@
 
 import json
 
-from llbm_tools.page.driver import Page, check, same
+from llbm_tools.page.page_driver import Page, check, same
 
 # Two executions on one locked cache, one of which fails, and a merge of both: a second worker waits for the cache.
 LOCKED = """op {

@@ -4,8 +4,8 @@ import pathlib
 import subprocess
 
 from llbm_tools.commands import line_of
-from llbm_tools.page.driver import NARROW, WIDE, Page, check, same
-from llbm_tools.page.large import GIVE, MOST_VERTICES, PRESS, file_on, merge_of
+from llbm_tools.page.large_page_cases import GIVE, MOST_VERTICES, PRESS, file_on, merge_of
+from llbm_tools.page.page_driver import NARROW, WIDE, Page, check, same
 
 LAYER = 300
 SCALE = "Number(/scale\\((.*)\\)/.exec(document.getElementById('graph-layer').style.transform)[1])"

@@ -1,7 +1,7 @@
 """The start of the page, and the definition beside the graph, which is edited, in a browser."""
 
 from llbm_tools.page import assets, module_cases
-from llbm_tools.page.driver import NARROW, WIDE, Page, check, same
+from llbm_tools.page.page_driver import NARROW, WIDE, Page, check, same
 
 LIVE = "workers"
 WORKERS = 3

@@ -5,7 +5,7 @@ import signal
 import subprocess
 import unittest
 
-from llbm_tools.building import folders
+from llbm_tools.building import build_folders
 from tests import base
 from tests.base import command
 from tests.building.building import PRINTS, WAITS, Builds
@@ -67,7 +67,7 @@ class Left(Builds):
         (self.held / "llbm-build-abcdefgh").write_text("a file")
         (self.held / "llbm-build-ijklmnop").symlink_to(self.at)
         before = set(os.listdir(self.held))
-        folders.remove_left(folders.TEXTS, str(self.held))
+        build_folders.remove_left(build_folders.TEXTS, str(self.held))
         self.assertEqual(set(os.listdir(self.held)), before)
 
     @unittest.skipUnless(base.IS_ROOT, "only root can give a folder to another user")
@@ -75,5 +75,5 @@ class Left(Builds):
         place = self.held / "llbm-build-abcdefgh"
         place.mkdir()
         os.chown(place, 1, 1)
-        folders.remove_left(folders.TEXTS, str(self.held))
+        build_folders.remove_left(build_folders.TEXTS, str(self.held))
         self.assertTrue(place.is_dir())

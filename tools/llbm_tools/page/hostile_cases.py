@@ -9,7 +9,7 @@ import random
 from collections.abc import Callable
 
 from llbm_tools.page import assets, module_cases
-from llbm_tools.page.driver import NARROW, READY, WIDE, Page, check, same
+from llbm_tools.page.page_driver import NARROW, READY, WIDE, Page, check, same
 
 SEED, BURSTS, MOST_ACTIONS = 11, 12, 10
 EDIT_SEED, EDITS = 5, 10

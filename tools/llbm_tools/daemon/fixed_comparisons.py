@@ -10,8 +10,8 @@ import tempfile
 import time
 from collections.abc import Iterator
 
-from llbm_tools.daemon import link_cases, runs, stored_dockerfiles
-from llbm_tools.daemon.cases import NO_EXECUTION, Case, Verdict, lines_of
+from llbm_tools.daemon import runs, link_cases, stored_dockerfiles
+from llbm_tools.daemon.compared_cases import NO_EXECUTION, Case, Verdict, lines_of
 from llbm_tools.daemon.runs import LINKED, Daemon, Ran
 from llbm_tools.daemon.scripted_runc import SKIP
 from llbm_tools.daemon.started_daemon import Started

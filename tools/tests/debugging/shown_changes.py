@@ -2,7 +2,7 @@
 
 import unittest
 
-from llbm_tools.debugging import changes, shown_trees
+from llbm_tools.debugging import shown_trees, tree_changes
 
 
 class Comparisons(unittest.TestCase):
@@ -15,7 +15,7 @@ class Comparisons(unittest.TestCase):
     def test_the_paths_of_a_difference_are_in_order(self):
         before = self.flat(b"d 0755 0 0 /a", b"f 0644 0 0 31 /a/b", b"f 0644 0 0 - /a-b", b"f 0644 0 0 - /c")
         after = self.flat(b"d 0700 0 0 /a", b"f 0644 1 2 32 /a/b", b"d 0755 0 0 /c", b"f 0600 0 0 - /a-b")
-        found = changes.compared("t", before, after, 10)
+        found = tree_changes.compared("t", before, after, 10)
         self.assertEqual([(one.path, one.shown()) for one in found.changes], [
             ("/a", "changed mode 0755 -> 0700"),
             ("/a/b", "changed owner 0:0 -> 1:2, text of 1 byte: 1 -> text of 1 byte: 2"),
@@ -23,9 +23,9 @@ class Comparisons(unittest.TestCase):
             ("/c", "changed file 0644 0:0, 0 bytes -> directory 0755 0:0"),
         ])
         self.assertEqual(found.summary(), "4 changed")
-        self.assertEqual(changes.compared("t", before, before, 10).summary(), "nothing")
+        self.assertEqual(tree_changes.compared("t", before, before, 10).summary(), "nothing")
 
     def test_changes_beyond_the_limit_are_counted(self):
         after = self.flat(*(b"f 0644 0 0 - /%d" % number for number in range(9)))
-        found = changes.compared("t", self.flat(), after, 2)
+        found = tree_changes.compared("t", self.flat(), after, 2)
         self.assertEqual(([one.path for one in found.changes], found.summary()), (["/0", "/1"], "9 added"))

@@ -4,7 +4,7 @@ import pathlib
 import tempfile
 
 from llbm_tools.page import assets, server, wasm_module
-from llbm_tools.page.driver import READY, Page, check, same
+from llbm_tools.page.page_driver import READY, Page, check, same
 
 
 def shown_with(page: Page, module: bytes | None) -> tuple[str, str, str]:

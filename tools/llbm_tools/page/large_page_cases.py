@@ -5,7 +5,7 @@ import subprocess
 import time
 
 from llbm_tools.commands import line_of
-from llbm_tools.page.driver import Page, check, same
+from llbm_tools.page.page_driver import Page, check, same
 
 FILES = 2000
 SEARCHED = 700

@@ -3,7 +3,7 @@
 from llbm_tools.definitions import adopted_ops
 from llbm_tools.llb.findings import findings_of
 from llbm_tools.page import assets
-from llbm_tools.page.driver import Page, check, same
+from llbm_tools.page.page_driver import Page, check, same
 
 # What `adopt --all` does.
 ALL = adopted_ops.Settings(frozenset(adopted_ops.DROPPED), (), adopted_ops.RunNothing.REFUSED)

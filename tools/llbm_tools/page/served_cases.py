@@ -8,7 +8,7 @@ from collections.abc import Iterator
 
 from llbm_tools.page import assets, module_cases, server
 from llbm_tools.page import buildkit_notes as page_notes
-from llbm_tools.page.driver import Page, check, same
+from llbm_tools.page.page_driver import Page, check, same
 
 KEPT = "llbmd-kept-builds"
 # A run of the example `cache` by two workers that the machine would not choose.

@@ -11,7 +11,7 @@ from llbm_tools.trees import content_tokens
 from tests import base, program
 from tests.base import run
 from tests.building.building import Builds
-from tests.trees.archives import entry, tar
+from tests.trees.tar_tools import entry, tar
 
 PRINTS_SOURCE = """
 sys.stdout.write(open(given[0][2]).read())

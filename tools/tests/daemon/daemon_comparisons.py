@@ -17,7 +17,7 @@ import unittest
 from unittest import mock
 
 from llbm_tools.daemon import (
-    against_buildkit, cases, daemon, fixed_sets, link_cases, project_dockerfiles, random_definitions,
+    against_buildkit, compared_cases, daemon, fixed_comparisons, link_cases, project_dockerfiles, random_definitions,
     random_dockerfiles, runs, scripted_runc, started_daemon, stored_dockerfiles,
 )  # fmt: skip
 from llbm_tools.rules import examples
@@ -208,7 +208,7 @@ class Against(unittest.TestCase):
             found, lines = called(lambda: list(against_buildkit.fixed(started, played, given)))
         refused = [one for one in link_cases.cases() if one.is_refused]
         with_lines = [case.name for case, verdict in found if verdict.lines]
-        exporters = [f"links: exported as {kind}" for kind in fixed_sets.EXPORTERS]
+        exporters = [f"links: exported as {kind}" for kind in fixed_comparisons.EXPORTERS]
         self.assertEqual(with_lines, [*exporters, *(f"links: {one.name}" for one in refused)])
         medians = "^median of the builds of these: [0-9.]+ s by BuildKit's daemon, [0-9.]+ s by llbmd$"
         self.assertRegex(lines[-1], medians)
@@ -221,19 +221,20 @@ class Against(unittest.TestCase):
         self.assertFalse(runs_scripts)
         self.assertRegex(said[0], "^executions are left out: buildkitd runs none here: error: process")
         started = started_daemon.Started(played, pathlib.Path("none"), False)
-        with mock.patch.object(fixed_sets, "of_exporters", lambda *_: []):
+        with mock.patch.object(fixed_comparisons, "of_exporters", lambda *_: []):
             given = options(start=True, links=True, dockerfiles=True)
             found, lines = called(lambda: list(against_buildkit.fixed(started, played, given)))
-        left_out = [case.name for case, verdict in found if verdict == ([cases.NO_EXECUTION], [])]
+        left_out = [case.name for case, verdict in found if verdict == ([compared_cases.NO_EXECUTION], [])]
         executions = [f"links: {one.name}" for one in link_cases.cases() if one.runs]
         self.assertEqual(left_out, [*executions, *(name for name, _ in stored_dockerfiles.stored())])
         self.assertEqual(lines, ["none of these Dockerfiles was built, for want of executions"])
 
     def test_what_is_left_out_counts_as_skipped(self):
         played = Played(runs.Ran(FILE))
-        case = cases.Case("a", b"", {})
-        some = [(case, cases.Verdict([name], lines)) for name, lines in
-                [(cases.NO_EXECUTION, []), ("links", []), ("links", ["wrong"]), ("left out: busy", [])]]  # fmt: skip
+        case = compared_cases.Case("a", b"", {})
+        some = [(case, compared_cases.Verdict([name], lines)) for name, lines in
+                [(compared_cases.NO_EXECUTION, []), ("links", []), ("links", ["wrong"]),
+                 ("left out: busy", [])]]  # fmt: skip
         with (
             mock.patch.object(against_buildkit, "fixed", lambda *_: some),
             mock.patch.object(against_buildkit, "verdicts", lambda *_: []),
@@ -266,13 +267,13 @@ class FixedSets(unittest.TestCase):
     def test_a_case_is_refused_by_a_link_exactly_if_it_has_to_be(self):
         built, refused = runs.Ran(FILE), runs.Ran(None, "error: llbm: /a leads through /a, which llbm does not follow")
         for is_refused, here, count in [(False, built, 0), (True, refused, 0), (False, refused, 1), (True, built, 1)]:
-            self.assertEqual(len(fixed_sets.fault_of("a", is_refused, built, here, frozenset())), count)
+            self.assertEqual(len(fixed_comparisons.fault_of("a", is_refused, built, here, frozenset())), count)
 
     def test_a_warning_that_something_runs_announces_no_difference(self):
         rules = frozenset({"Execution", "MkfileOver"})
         for name, count in [("Execution", 1), ("MkfileOver", 0)]:
             other = runs.Ran(OTHER, "", frozenset({name}))
-            self.assertEqual(len(fixed_sets.fault_of("a", False, runs.Ran(FILE), other, rules)), count)
+            self.assertEqual(len(fixed_comparisons.fault_of("a", False, runs.Ran(FILE), other, rules)), count)
 
     def test_an_execution_of_buildkit_runs_its_stand_in(self):
         rules = "pattern '*go build*' => /bin/sh -c 'write /a x'\n\nwords true =>\n"
