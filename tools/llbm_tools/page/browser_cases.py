@@ -333,8 +333,8 @@ def a_trap(page: Page) -> None:
     same(page.record(), ["claim 0 0"], "the session after it")
 
 
-# A worker of a session whose module reads outside of its memory at a line: that traps. The page takes it in place of its
-# own until it is told not to.
+# A worker of a session whose module reads outside of its memory at a line: that traps. The page takes it in place of
+# its own until it is told not to.
 BEFORE_A_TRAP = 3
 TRAPPING = """
 const Instance = WebAssembly.Instance;

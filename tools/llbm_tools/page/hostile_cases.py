@@ -75,7 +75,8 @@ def check_state(page: Page, did: list[str]) -> None:
     wrong = [(box, words[str(box)]) for box, shown in state["boxes"] if words[str(box)] not in shown.split()]
     same(wrong, [], f"boxes with another status than the program's after {did}")
     mine = answer(page, "asm", state["text"].encode(), case._replace(locals=[]))
-    check(mine == data or state["said"] or not state["text"], f"the text is not what is open, and nothing is said: {did}")
+    is_other = mine != data and state["text"]
+    check(not is_other or state["said"], f"the text is not what is open, and nothing is said: {did}")
 
 
 def example(page: Page, dice: random.Random) -> None:
