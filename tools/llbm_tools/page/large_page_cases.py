@@ -244,7 +244,8 @@ COUNT = """(() => {
   globalThis.llbmPieces = [];
   const post = globalThis.llbmPost ??= Worker.prototype.postMessage;
   Worker.prototype.postMessage = function counted(data, ...more) {
-    if (['go', 'look'].includes(data?.call)) globalThis.llbmPieces.push(data.args[1].split('\\n').length);
+    const [, lines] = ['go', 'look'].includes(data?.call) ? data.args : [];
+    if (lines !== undefined) globalThis.llbmPieces.push(lines.split('\\n').length);
     return post.call(this, data, ...more);
   };
 })()"""
