@@ -2,24 +2,22 @@
  * Changes a foreign definition into one that the machine takes, as `llbm-tools adopt --all` does: sources that are
  * images and the like become local ones; secrets, agents, unpacking and owners by name are dropped; words that are
  * refused run `true`. A change of an entry changes all entries that depend on it, since inputs name entries by their
- * digests.
+ * digests: the machine assembles what is changed, and says its digests.
  */
 
+import { digestsOf } from './digests.mjs';
 import { canBeGiven, isKnown, LOCAL, LocalNames } from './local_names.mjs';
-import { textIn } from './metadata.mjs';
-import { membersOf } from './op_text.mjs';
-import {
-  areEqual, changed, recordsIn, withEach, withMessage, without, withText, withTexts, written,
-} from './records.mjs';
+import { renameEntries, textIn } from './metadata.mjs';
+import { textOfOp } from './op_text.mjs';
+import { bytesIn, joined, recordsIn } from './records.mjs';
 import { inputsFirst } from './refused_rows.mjs';
+import { assembled } from './session.mjs';
 
-const EXEC = 2;
-const SOURCE = 3;
-const FILE = 4;
-const OWNERS = { copy: [4, 3], mkfile: [5, 4], mkdir: [6, 4] };
-const UNPACK = 7;
 const NOTHING = ['true'];
 const DROPPED_MOUNTS = new Map([[1, 'secret'], [2, 'SSH']]);
+const LINKED = 'its inputs have new digests';
+// The rules that words break which are refused.
+const RULES_OF_WORDS = new Set(['Script', 'NoArgs']);
 const MOST_CHARACTERS = 60;
 
 function quoted(word) {
@@ -32,188 +30,111 @@ function wordsShown(words) {
   return letters.length > MOST_CHARACTERS ? `${letters.slice(0, MOST_CHARACTERS - 3).join('')}...` : letters.join('');
 }
 
-/** One entry while it is changed, with a description of each change. */
-class Entry {
-  constructor(local, isRefused) {
-    this.local = local;
-    // Whether the machine refuses its words, if it is an execution.
-    this.isRefused = isRefused;
-    this.changes = [];
-  }
+const droppedAs = ({ mountType }) => DROPPED_MOUNTS.get(mountType);
 
-  // The changed op; its inputs still have their old digests.
-  changedOp(digest, entry, op) {
-    if (op.source && this.local.has(digest)) {
-      const identifier = LOCAL + this.local.get(digest);
-      this.changes.push(`source ${op.source.identifier} is ${identifier}`);
-      return this.member(entry, SOURCE, (held) => withText(held, 1, identifier));
-    }
-    if (op.exec) return this.member(entry, EXEC, (records) => this.execution(op.exec, records));
-    if (!op.file) return entry;
-    const actions = op.file.actions.entries();
-    return this.member(entry, FILE, (held) => withEach(held, 2, (one) => this.action(one, ...actions.next().value)));
-  }
+// Each of the following returns a changed part of an op, and adds what it changes to a list of words.
 
-  member(entry, field, change) {
-    const members = membersOf('Op');
-    return changed(entry, (records) => withMessage(records, field, (held) => changed(held, change), members));
+function changedExec(exec, isRefused, words) {
+  words.push(...exec.mounts.filter(droppedAs).map((mount) => `dropped: ${droppedAs(mount)} mount at ${mount.dest}`));
+  if (exec.secretenv.length) {
+    const names = exec.secretenv.map((secret) => textIn(secret, 2) || textIn(secret, 1));
+    words.push(`dropped: secret environment ${names.join(', ')}`);
   }
-
-  execution(exec, records) {
-    const mounts = exec.mounts.values();
-    let left = withEach(records, 2, (held) => this.mount(held, mounts.next().value));
-    if (exec.secretenv.length) {
-      const names = exec.secretenv.map((held) => textIn(held, 2) || textIn(held, 1));
-      this.changes.push(`dropped: secret environment ${names.join(', ')}`);
-      left = without(left, 5);
-    }
-    const old = exec.meta?.args;
-    if (!exec.meta || !this.isRefused) return left;
-    this.changes.push(`runs ${wordsShown(NOTHING)} in place of ${wordsShown(old)}`);
-    return withMessage(left, 1, (held) => changed(held, (meta) => withTexts(meta, 1, NOTHING)));
-  }
-
-  mount(held, { mountType, dest }) {
-    if (!DROPPED_MOUNTS.has(mountType)) return held;
-    this.changes.push(`dropped: ${DROPPED_MOUNTS.get(mountType)} mount at ${dest}`);
-    return null;
-  }
-
-  action(held, number, action) {
-    const { kind } = action;
-    if (!Object.hasOwn(OWNERS, kind ?? '')) return held;
-    const [field, owner] = OWNERS[kind];
-    const change = (records) => this.actionMember(number, action, owner, records);
-    const members = membersOf('FileAction');
-    return changed(held, (records) => withMessage(records, field, (one) => changed(one, change), members));
-  }
-
-  actionMember(number, action, owner, records) {
-    const { kind, [kind]: { owner: users } } = action;
-    let left = records;
-    const unpacks = kind === 'copy' ? records.findLast((record) => record.field === UNPACK) : null;
-    if (unpacks && Number(unpacks.held) !== 0) {
-      this.changes.push(`dropped: unpacking by action ${number}`);
-      left = without(left, UNPACK);
-    }
-    return withMessage(left, owner, (held) => changed(held, (old) => this.owner(number, users, old)));
-  }
-
-  owner(number, { user, group }, records) {
-    let left = records;
-    for (const [field, who, given] of [[1, 'user', user], [2, 'group', group]]) {
-      if (given?.byName !== null && given?.byName !== undefined) {
-        this.changes.push(`dropped: ${who} ${textIn(given.byName, 1)} of action ${number}`);
-        left = without(left, field);
-      }
-    }
-    return left;
-  }
+  const changed = { ...exec, mounts: exec.mounts.filter((mount) => !droppedAs(mount)), secretenv: [] };
+  if (!exec.meta || !isRefused) return changed;
+  words.push(`runs ${wordsShown(NOTHING)} in place of ${wordsShown(exec.meta.args)}`);
+  return { ...changed, meta: { ...exec.meta, args: NOTHING } };
 }
 
-// The rules that words break which are refused.
-const RULES_OF_WORDS = new Set(['Script', 'NoArgs']);
-
-/** A definition while it is adopted. */
-class Adoption {
-  constructor(definition, rows, findings, digestOf) {
-    this.records = [...recordsIn(definition)];
-    this.rows = rows;
-    this.refused = new Set(findings.filter(({ name }) => RULES_OF_WORDS.has(name)).map(({ row }) => row));
-    this.digestOf = digestOf;
-    this.reached = rows.reached();
-    this.sources = [];
-    this.local = new Map();
-    this.nameSources();
-    this.fresh = new Map();
-    this.made = new Map();
-    this.changes = [];
-  }
-
-  // Chooses names for the sources that are reached, in the order of rows, and lists all that are local then.
-  nameSources() {
-    const reached = [...this.rows.ops].filter(([row, op]) => this.reached.has(row) && op.source);
-    const ops = reached.sort(([a], [b]) => a - b);
-    const given = new LocalNames(ops.map(([, op]) => op.source.identifier));
-    const renamed = new Map();
-    for (const [row, { source: { identifier } }] of ops) {
-      let name = identifier.startsWith(LOCAL) ? identifier.slice(LOCAL.length) : null;
-      if (isKnown(identifier)) {
-        name = given.newName(identifier);
-        this.local.set(this.rows.entries[row].digest, name);
-      } else if (name && !canBeGiven(name)) {
-        name = renamed.get(identifier) ?? given.newName(identifier);
-        renamed.set(identifier, name);
-        this.local.set(this.rows.entries[row].digest, name);
-      }
-      if (name !== null) this.sources.push({ name, identifier });
-    }
-  }
-
-  order() {
-    const ops = [...this.rows.ops.keys()].filter((row) => this.reached.has(row));
-    const among = new Set(ops);
-    return inputsFirst(ops, (row) => this.rows.linksOf(row).filter((one) => among.has(one)));
-  }
-
-  input(held, { digest }) {
-    const fresh = this.fresh.get(digest) ?? digest;
-    return fresh === digest ? held : changed(held, (records) => withText(records, 1, fresh));
-  }
-
-  adoptRow(row) {
-    const { digest, bytes } = this.rows.entries[row];
-    const one = new Entry(this.local, this.refused.has(row));
-    const op = this.rows.ops.get(row);
-    const inputs = op.inputs.values();
-    const entry = one.changedOp(digest, bytes, op);
-    const linked = changed(entry, (records) => withEach(records, 1, (held) => this.input(held, inputs.next().value)));
-    if (!areEqual(linked, entry)) one.changes.push('its inputs have new digests');
-    this.made.set(digest, linked);
-    this.fresh.set(digest, areEqual(linked, bytes) ? digest : this.digestOf(linked));
-    this.changes.push(...one.changes.map((words) => ({ row, words })));
-  }
-
-  // An entry of a map with the new digest as its key; one that can't be read stays as it is.
-  renamed(held) {
-    const records = recordsOrNull(held);
-    if (records === null) return held;
-    const key = textIn(held, 1);
-    const fresh = this.fresh.get(key) ?? key;
-    return fresh === key ? held : written(withText(records, 1, fresh));
-  }
-
-  places(held) {
-    const records = recordsOrNull(held);
-    return records === null ? held : written(withEach(records, 1, (one) => this.renamed(one)));
-  }
-
-  result() {
-    let row = 0;
-    const records = withEach(this.records, 1, (entry) => {
-      row += 1;
-      return this.made.get(this.rows.entries[row - 1].digest) ?? entry;
-    });
-    const metadata = withEach(records, 2, (held) => this.renamed(held));
-    return written(withMessage(metadata, 3, (held) => this.places(held)));
-  }
+function changedOwner(owner, number, words) {
+  const kept = (who) => {
+    const name = owner[who]?.byName ?? null;
+    if (name === null) return owner[who];
+    words.push(`dropped: ${who} ${textIn(name, 1)} of action ${number}`);
+    return null;
+  };
+  return { ...owner, user: kept('user'), group: kept('group') };
 }
 
-function recordsOrNull(data) {
-  try {
-    return [...recordsIn(data)];
-  } catch {
-    return null;
+function changedAction(action, number, words) {
+  const body = action[action.kind];
+  if (!body) return action;
+  if (body.attemptUnpackDockerCompatibility) words.push(`dropped: unpacking by action ${number}`);
+  const owner = body.owner ? changedOwner(body.owner, number, words) : null;
+  return { ...action, [action.kind]: { ...body, attemptUnpackDockerCompatibility: false, owner } };
+}
+
+function changedOp(op, name, isRefused, words) {
+  const { source, exec, file } = op;
+  if (source && name !== undefined) {
+    words.push(`source ${source.identifier} is ${LOCAL}${name}`);
+    return { ...op, source: { ...source, identifier: LOCAL + name } };
   }
+  if (exec) return { ...op, exec: changedExec(exec, isRefused, words) };
+  if (!file) return op;
+  const actions = file.actions.map((action, number) => changedAction(action, number, words));
+  return { ...op, file: { ...file, actions } };
+}
+
+// Chooses names for the sources that are reached, in the order of rows, and lists all that are local then.
+function namesOfSources(rows, reached) {
+  const found = [...rows.ops].filter(([row, op]) => reached.has(row) && op.source).sort(([a], [b]) => a - b);
+  const given = new LocalNames(found.map(([, op]) => op.source.identifier));
+  const [names, renamed, sources] = [new Map(), new Map(), []];
+  for (const [row, { source: { identifier } }] of found) {
+    let name = identifier.startsWith(LOCAL) ? identifier.slice(LOCAL.length) : null;
+    if (isKnown(identifier)) names.set(row, name = given.newName(identifier));
+    else if (name && !canBeGiven(name)) {
+      name = renamed.get(identifier) ?? given.newName(identifier);
+      renamed.set(identifier, name);
+      names.set(row, name);
+    }
+    if (name !== null) sources.push({ name, identifier });
+  }
+  return { names, sources };
+}
+
+// Returns the rows that lead to the result and are ops, each after the rows that it names.
+function reachedOps(rows, reached) {
+  const ops = [...rows.ops.keys()].filter((row) => reached.has(row));
+  const among = new Set(ops);
+  return inputsFirst(ops, (row) => rows.linksOf(row).filter((one) => among.has(one)));
+}
+
+// Returns a definition with other entries in the place of some. `places` has the place of each text by the old digest.
+function replaced(machine, definition, { entries }, texts, places) {
+  const fresh = [...recordsIn(assembled(machine, texts.join('')))];
+  const digests = digestsOf(machine.handle(), fresh.map(bytesIn));
+  let row = -1;
+  const left = [...recordsIn(definition)].map((record) => {
+    row += record.field === 1 ? 1 : 0;
+    return record.field === 1 ? fresh[places.get(entries[row].digest)] ?? record : record;
+  });
+  const data = joined(left.map(({ text }) => text));
+  renameEntries(data, new Map([...places].map(([old, place]) => [old, digests[place]])));
+  return data;
 }
 
 /**
  * Returns a definition that is adopted as far as possible, its changes by row, and the local sources that it has then
- * with what they were before. `digestOf` returns the digest of a new entry.
+ * with what they were before.
  */
-export function adopted(definition, rows, findings, digestOf) {
-  const adoption = new Adoption(definition, rows, findings, digestOf);
-  for (const row of adoption.order()) adoption.adoptRow(row);
-  const changes = adoption.changes.sort((a, b) => a.row - b.row);
-  return { data: adoption.result(), changes, sources: adoption.sources };
+export function adopted(machine, definition, rows, findings) {
+  const refused = new Set(findings.filter(({ name }) => RULES_OF_WORDS.has(name)).map(({ row }) => row));
+  const reached = rows.reached();
+  const { names, sources } = namesOfSources(rows, reached);
+  const [texts, places, changes] = [[], new Map(), []];
+  for (const row of reachedOps(rows, reached)) {
+    const words = [];
+    const op = changedOp(rows.ops.get(row), names.get(row), refused.has(row), words);
+    if (op.inputs.some(({ digest }) => places.has(digest))) words.push(LINKED);
+    if (words.length) {
+      texts.push(textOfOp(op, places));
+      places.set(rows.entries[row].digest, places.size);
+      changes.push(...words.map((one) => ({ row, words: one })));
+    }
+  }
+  changes.sort((a, b) => a.row - b.row);
+  const data = texts.length ? replaced(machine, definition, rows, texts, places) : definition;
+  return { data, changes, sources };
 }

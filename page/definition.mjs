@@ -61,10 +61,9 @@ function opInWords({ kind, inputs, ...op }) {
 
 /** An entry of a definition. All of it is read when it is asked for. */
 class Entry {
-  constructor(row, digest, bytes, about, ops) {
+  constructor(row, digest, about, ops) {
     this.row = row;
     this.digest = digest;
-    this.bytes = bytes;
     this.about = about;
     this.ops = ops;
     this.word = null;
@@ -130,8 +129,7 @@ function opsOf(machine, definition) {
 /** Returns what the machine says of a definition's entries: their digests and their ops, which are kept. */
 export function saidOf(machine, definition) {
   if (!kept.has(definition)) {
-    const all = optional(() => entriesIn(definition), []);
-    const digests = optional(() => digestsOf(machine.handle(), all), []);
+    const digests = optional(() => digestsOf(machine.handle(), entriesIn(definition)), []);
     keepSaid(definition, { digests, ops: opsOf(machine, definition) });
   }
   return kept.get(definition);
@@ -145,14 +143,12 @@ export function opsText(machine, definition) {
 /** Returns what `entriesOf` does, when the generator ends. */
 export function* readingEntries(machine, definition) {
   if (known.has(definition)) return known.get(definition);
-  const all = optional(() => entriesIn(definition), []);
-  yield;
   const { digests, ops: said } = saidOf(machine, definition);
   const about = yield* new Metadata().reading(definition);
   const ops = new Ops(said, digests);
   const [rows, first] = [[], new Map()];
   for (const [row, digest] of digests.entries()) {
-    rows.push(new Entry(row, digest, all[row], about, ops));
+    rows.push(new Entry(row, digest, about, ops));
     if (!first.has(digest)) first.set(digest, rows[row]);
     if (row % MOST_AT_ONCE === 0) yield;
   }

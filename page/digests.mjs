@@ -3,26 +3,21 @@
 import { STATUS } from './machine.mjs';
 import { textIn } from './metadata.mjs';
 import { bytesIn, recordsIn } from './records.mjs';
+import { hexOf } from './tree_text.mjs';
 
 // An op has at most so many inputs. A text of so many bytes more than the largest entry is within the machine's limits.
 const MOST = 1024;
 const MOST_BYTES = 8 << 20;
-const HEX = Array.from({ length: 256 }, (_, byte) => byte.toString(16).padStart(2, '0'));
 
 /** Returns the entries of a definition. */
 export function entriesIn(definition) {
   return [...recordsIn(definition)].filter((record) => record.field === 1).map(bytesIn);
 }
 
-function rawLine(bytes) {
-  let digits = '';
-  for (const byte of bytes) digits += HEX[byte];
-  return `raw ${digits || '-'}\n`;
-}
-
 function digestsOfPart(handle, entries) {
-  const named = entries.map((_, i) => `inputs {\ndigest %${i}\n}\n`);
-  const status = handle.asm(`${entries.map(rawLine).join('')}op {\n${named.join('')}}\n`);
+  const lines = entries.map((bytes) => `raw ${hexOf(bytes) || '-'}\n`);
+  const inputs = entries.map((_, i) => `inputs {\ndigest %${i}\n}\n`);
+  const status = handle.asm(`${lines.join('')}op {\n${inputs.join('')}}\n`);
   if (status !== STATUS.done) throw new Error(handle.messages().trim() || 'no memory');
   return [...recordsIn(entriesIn(handle.output()).at(-1))].map((input) => textIn(bytesIn(input), 1));
 }

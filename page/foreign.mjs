@@ -2,7 +2,6 @@
 
 import { adopted } from './adopting.mjs';
 import { entriesOf } from './definition.mjs';
-import { digestsOf } from './digests.mjs';
 import { findingsOf } from './findings.mjs';
 import { inputsFirst, Rows } from './refused_rows.mjs';
 
@@ -25,8 +24,7 @@ function byRow(list) {
 // What adopting would change, or why it can't be done.
 function adoptionOf(machine, definition, rows, findings) {
   try {
-    const handle = machine.handle();
-    const adoption = adopted(definition, rows, findings, (entry) => digestsOf(handle, [entry])[0]);
+    const adoption = adopted(machine, definition, rows, findings);
     return { ...adoption, left: findingsOf(machine, adoption.data) };
   } catch (fault) {
     return { data: null, changes: [], sources: [], left: [], why: fault.message };

@@ -5,20 +5,13 @@
  * from digests to places, and `infos` (2), the files. What can't be read is left out, since nothing depends on it.
  */
 
-import { bytesIn, joined, recordsIn } from './records.mjs';
+import { bytesIn, joined, recordsOf } from './records.mjs';
 
 const CUSTOM_NAME = 'llb.customname';
 const CUSTOM_GROUP = 'llb.customnamegroup';
 const COMMAND = 'com.docker.dockerfile.v1.command';
 const decoder = new TextDecoder();
-
-function recordsOf(bytes) {
-  try {
-    return [...recordsIn(bytes)];
-  } catch {
-    return [];
-  }
-}
+const encoder = new TextEncoder();
 
 function partsIn(bytes, field) {
   return recordsOf(bytes).filter((record) => record.field === field && typeof record.held === 'object').map(bytesIn);
@@ -93,6 +86,16 @@ export class Metadata {
     const locations = this.locations.get(digest);
     if (!locations) return null;
     return partsIn(locations, 1).map((one) => placeOf(one, this.files)).find(Boolean) ?? null;
+  }
+}
+
+/** Puts new digests in the place of old ones in what a definition says of its entries; they have the same length. */
+export function renameEntries(definition, fresh) {
+  const said = [...partsIn(definition, 2), ...partsIn(definition, 3).flatMap((source) => partsIn(source, 1))];
+  for (const one of said) {
+    const key = partsIn(one, 1).at(-1);
+    const now = key && fresh.get(decoder.decode(key));
+    if (now) key.set(encoder.encode(now));
   }
 }
 

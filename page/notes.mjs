@@ -3,46 +3,46 @@
  * ends otherwise in BuildKit, by `llbm-tools explain buildkit`. docs/BUILDKIT.md lists them.
  */
 
-import { bytesIn, counted, joined, recordsIn } from './records.mjs';
+import { joined, recordsOf } from './records.mjs';
 import { tables } from './tables.mjs';
 
-const MEMBERS = { op: new Set([2, 3, 4, 5, 6, 7]), action: new Set([4, 5, 6, 7]), none: new Set() };
-
-function recordsOf(data) {
-  try {
-    return [...recordsIn(data)];
-  } catch {
-    return [];
+// Returns the values of a field of a message, and the type of these if the machine reads them as messages. A message
+// is what the machine read of it, with the bytes of its other records, or its bytes.
+function fieldOf(message, type, number) {
+  const field = type && tables.messages[type].find((one) => one.number === number);
+  if (!field) {
+    const records = recordsOf(type ? message.extra : message);
+    return { values: records.filter((record) => record.field === number).map(({ held }) => held), type: null };
   }
+  const value = message[field.name];
+  return { values: field.repeated ? value : value === null ? [] : [value], type: field.isMessage ? field.kind : null };
 }
 
-function isSet(found, unset) {
-  if (!found.length) return false;
-  const { held } = found.at(-1);
-  if (held instanceof Uint8Array) return found.some((record) => bytesIn(record).length > 0);
-  return !unset.includes(Number(BigInt.asIntN(64, BigInt(held))));
+function isSet(values, unset) {
+  const last = values.at(-1);
+  if (values.length === 0 || typeof last === 'boolean') return Boolean(last);
+  if (typeof last !== 'number' && typeof last !== 'bigint') return values.some(({ length }) => length > 0);
+  return !unset.includes(Number(BigInt.asIntN(64, BigInt(last))));
 }
 
 // The index of each part of a message that has a field set; 0 if the field is in no part.
-function partsWith(data, row, path, members) {
+function partsWith(message, type, row, path) {
   const [number, ...rest] = path;
-  const found = recordsOf(data);
   if (Array.isArray(number)) {
-    const inner = row.part === 'action' ? MEMBERS.action : MEMBERS.none;
-    const parts = found.filter((record) => record.field === number[0]).map(bytesIn);
-    return [...parts.keys()].filter((index) => partsWith(parts[index], row, rest, inner).length);
+    const parts = fieldOf(message, type, number[0]);
+    return [...parts.values.keys()].filter((index) => partsWith(parts.values[index], parts.type, row, rest).length);
   }
-  const given = counted(members, number, found);
-  if (rest.length) return given.length ? partsWith(joined(given.map(bytesIn)), row, rest, MEMBERS.none) : [];
-  return isSet(given, row.unset ?? [0]) ? [0] : [];
+  const { values, type: inner } = fieldOf(message, type, number);
+  if (!rest.length) return isSet(values, row.unset ?? [0]) ? [0] : [];
+  if (!values.length) return [];
+  const one = inner ? values[0] : joined(values.filter((held) => held instanceof Uint8Array));
+  return partsWith(one, inner, row, rest);
 }
 
-function notesBy(rows, data, members) {
-  const present = new Set(recordsOf(data).map((record) => record.field));
-  return rows.filter((row) => present.has(row.numbers[0])).flatMap((row) => (
-    partsWith(data, row, row.numbers, members).map((index) => ({
-      name: row.name, part: row.part ? `${row.part} ${index}` : '', effect: row.effect,
-    }))));
+function notesBy(rows, message, type) {
+  return rows.flatMap((row) => partsWith(message, type, row, row.numbers).map((index) => ({
+    name: row.name, part: row.part ? `${row.part} ${index}` : '', effect: row.effect,
+  })));
 }
 
 function notesOfAttributes(given) {
@@ -57,11 +57,10 @@ function notesOfAttributes(given) {
 
 /** Returns the notes of an entry: the name of each, the part of the op that it is about, and its effect in BuildKit. */
 export function notesOf(entry) {
-  if (!entry?.bytes) return [];
   const { fields, metadata } = tables.notes;
   return [
-    ...notesBy(fields, entry.bytes, MEMBERS.op), ...notesOfAttributes(entry.op?.source?.attrs ?? []),
-    ...(entry.metadata ? notesBy(metadata, entry.metadata, MEMBERS.none) : []),
+    ...(entry?.op ? notesBy(fields, entry.op, 'Op') : []), ...notesOfAttributes(entry?.op?.source?.attrs ?? []),
+    ...(entry?.metadata ? notesBy(metadata, entry.metadata, null) : []),
   ];
 }
 

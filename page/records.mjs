@@ -1,6 +1,6 @@
 /**
- * The records of which messages of Protocol Buffers consist: this is the page's one reader of them. The machine says
- * what is wrong with bytes that can't be read. Records are written as they were read, and in their order.
+ * The records of which messages of Protocol Buffers consist: the page's one reader of them, for what the machine does
+ * not read. The machine says what is wrong with bytes that can't be read, and it alone writes messages.
  */
 
 const FORMS = { varint: 0, eight: 1, length: 2, four: 5 };
@@ -60,6 +60,15 @@ export function* recordsIn(data) {
   }
 }
 
+/** Returns the records in these bytes; none where they can't be read. */
+export function recordsOf(data) {
+  try {
+    return [...recordsIn(data)];
+  } catch {
+    return [];
+  }
+}
+
 /** Returns the value of a record as bytes; empty if it is a number. */
 export function bytesIn(record) {
   return record.held instanceof Uint8Array ? record.held : new Uint8Array(0);
@@ -75,89 +84,4 @@ export function joined(parts) {
     at += part.length;
   }
   return all;
-}
-
-/** Returns whether two pieces of bytes are equal. */
-export function areEqual(a, b) {
-  return a.length === b.length && a.every((byte, i) => byte === b[i]);
-}
-
-// Returns the shortest bytes of a number below 2^53.
-function varint(number) {
-  const found = [];
-  for (let left = number; ;) {
-    const low = left % 128;
-    left = Math.floor(left / 128);
-    if (!left) return [...found, low];
-    found.push(low | 128);
-  }
-}
-
-/** Returns the record of a string, of bytes or of a message. */
-export function recordOf(field, held) {
-  const head = Uint8Array.from([...varint(field * 8 + FORMS.length), ...varint(held.length)]);
-  return { field, form: FORMS.length, held, text: joined([head, held]) };
-}
-
-/** Returns the bytes of records. */
-export function written(records) {
-  return joined(records.map((record) => record.text));
-}
-
-// Puts new records in the place of the first old one, or before all records if there are no old ones.
-function replaced(records, old, fresh) {
-  const removed = new Set(old);
-  const place = Math.max(0, records.findIndex((record) => removed.has(record)));
-  const rest = records.slice(place).filter((record) => !removed.has(record));
-  return [...records.slice(0, place), ...fresh, ...rest];
-}
-
-/** Returns the records of a field; of a member of a oneof only those after the last other member. */
-export function counted(members, field, records) {
-  const other = members.has(field)
-    ? records.findLastIndex((record) => members.has(record.field) && record.field !== field) : -1;
-  return records.slice(other + 1).filter((record) => record.field === field);
-}
-
-/** Changes a message that is not repeated, or a member of a oneof; its records become one. */
-export function withMessage(records, field, change, members = new Set()) {
-  const old = counted(members, field, records);
-  if (!old.length) return records;
-  const held = joined(old.map(bytesIn));
-  const fresh = change(held);
-  return areEqual(fresh, held) ? records : replaced(records, old, [recordOf(field, fresh)]);
-}
-
-/** Changes each message of a repeated field; those for which `change` returns null are removed. */
-export function withEach(records, field, change) {
-  return records.flatMap((record) => {
-    const isMessage = record.field === field && record.form === FORMS.length;
-    const fresh = isMessage ? change(record.held) : bytesIn(record);
-    if (fresh === null) return [];
-    return areEqual(fresh, bytesIn(record)) ? [record] : [recordOf(field, fresh)];
-  });
-}
-
-const encoder = new TextEncoder();
-
-/** Replaces the last record of a string. */
-export function withText(records, field, text) {
-  const old = records.filter((record) => record.field === field).slice(-1);
-  return replaced(records, old, [recordOf(field, encoder.encode(text))]);
-}
-
-/** Replaces a repeated string. */
-export function withTexts(records, field, texts) {
-  const old = records.filter((record) => record.field === field);
-  return replaced(records, old, texts.map((text) => recordOf(field, encoder.encode(text))));
-}
-
-/** Removes all records of a field. */
-export function without(records, field) {
-  return records.filter((record) => record.field !== field);
-}
-
-/** Returns the bytes of a message with changed records. */
-export function changed(data, change) {
-  return written(change([...recordsIn(data)]));
 }

@@ -4,7 +4,6 @@ import contextlib
 import os
 import shutil
 import sys
-import tempfile
 from collections.abc import Callable, Iterable, Iterator
 from typing import BinaryIO, cast
 
@@ -87,8 +86,8 @@ def program_at(word: str | None, others: str = "--llbm PROGRAM names another one
 
 
 def check_program(place: str, others: str = "--llbm PROGRAM names another one") -> None:
-    """Refuses what is not the program llbm."""
-    if cause := why_not(place):
+    """Refuses what is not the program llbm, as the one that `rt ci` leaves is."""
+    if place != str(paths.PROVED) and (cause := why_not(place)):
         raise Refused(f"{cause}: {place}; {others}")
 
 
@@ -105,6 +104,9 @@ def program_to_ask(word: str | None) -> str:
 @contextlib.contextmanager
 def temporary_file(what: str) -> Iterator[BinaryIO]:
     """Yields an unnamed temporary file (under TMPDIR); an OSError becomes Failed."""
+    # What stores nothing starts sooner without this.
+    import tempfile
+
     try:
         with tempfile.TemporaryFile() as stored:
             yield cast(BinaryIO, stored)
@@ -139,6 +141,8 @@ def mode_of_new_files() -> int:
 
 def write_and_rename(pieces: Iterable[bytes], place: str) -> None:
     """Writes pieces to a file under a temporary name beside a path, and renames it when it is complete."""
+    import tempfile
+
     descriptor, beside = tempfile.mkstemp(prefix=".llbm-", dir=os.path.dirname(place) or ".")
     try:
         with open(descriptor, "wb") as file:

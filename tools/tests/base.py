@@ -18,11 +18,11 @@ ROOT = TOOLS.parent
 IS_ROOT = os.geteuid() == 0
 
 AS_NOBODY = f"""
-import argparse, importlib, os, sys
+import argparse, ctypes, hashlib, importlib, os, platform, sys, tempfile
 sys.argv = sys.argv[1:]
 sys.path.insert(0, {str(TOOLS)!r})
 from llbm_tools import commands, doors
-for module in (doors.found(commands.of_all(), sys.argv[1:])[0].module, "building.one_build"):
+for module in (doors.found(commands.of_all(), sys.argv[1:])[0].module, "building.one_build", "trees.archived_sources"):
     importlib.import_module(f"llbm_tools.{{module}}")
 argparse.ArgumentParser().format_help()
 os.setgroups([])

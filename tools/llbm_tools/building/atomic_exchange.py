@@ -1,6 +1,5 @@
 """Puts a new file or directory in the place of an old one in one step, where the kernel and the file system can."""
 
-import ctypes
 import errno
 import os
 from collections.abc import Callable
@@ -12,6 +11,9 @@ UNABLE = (errno.ENOSYS, errno.EINVAL, errno.ENOTSUP)
 
 def kernel_call() -> Callable[..., int] | None:
     """Returns the call of the C library that exchanges two paths, or None if there is none."""
+    # Most results are new: their builds need not import this.
+    import ctypes
+
     try:
         return ctypes.CDLL(None, use_errno=True).renameat2
     except (AttributeError, OSError):
@@ -23,6 +25,8 @@ def exchange(new: str, old: str) -> bool:
 
     Where the kernel or the file system can't, the old one is moved beside the new one first, in a second step.
     """
+    import ctypes
+
     call = kernel_call()
     if call and call(HERE, os.fsencode(new), HERE, os.fsencode(old), EXCHANGE) == 0:
         return True

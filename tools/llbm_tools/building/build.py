@@ -69,6 +69,7 @@ from llbm_tools.building.kept_changes import Changes, Memory
 from llbm_tools.command_line import Parser
 from llbm_tools.common import discard_output, say
 from llbm_tools.os_errors import os_error_text
+from llbm_tools.rules import filters
 from llbm_tools.streams import FAILED, REFUSED, Failed, Refused, exit_status
 from llbm_tools.trees import entry_times
 
@@ -201,7 +202,7 @@ def parser() -> argparse.ArgumentParser:
     add("--platform", metavar="OS/ARCH", help="the platform of sources that are images with several")
     add("--mtime", metavar="SECONDS", type=entry_times.seconds_of, help="the time of the result's entries")
     add("--links", action="store_true", help="take symbolic links, and follow them where BuildKit does")
-    add("--no-filters", action="store_true", help="give all of each directory, whatever its source's filters leave out")
+    filters.add_option(parser)
     add("--by-value", action="store_true", help="give the program the contents of all sources")
     add("--replace", action="store_true", help="put the result in the place of an old one")
     add("--config", metavar="FILE", help="the configuration of an image, in JSON")

@@ -52,9 +52,10 @@ def is_left(folder: str) -> bool:
 
 def remove_left(prefix: str, above: str) -> None:
     """Removes what builds have left in a folder that did not end by themselves, and says so."""
+    left = re.compile(re.escape(prefix) + NAME)
     with contextlib.suppress(OSError):
         for name in sorted(os.listdir(above)):
             folder = os.path.join(above, name)
-            if re.fullmatch(re.escape(prefix) + NAME, name) and is_left(folder):
+            if left.fullmatch(name) and is_left(folder):
                 child_processes.remove(folder)
                 say(f"removed what a build left that was killed: {folder}")

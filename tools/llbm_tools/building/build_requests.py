@@ -1,7 +1,6 @@
 """What a build is asked for, and the checks of it that need neither the program nor the trees of the sources."""
 
 import argparse
-import hashlib
 import os
 import shutil
 import sys
@@ -11,9 +10,10 @@ from typing import NamedTuple
 from llbm_tools import inputs
 from llbm_tools.building.kept_builds import check_place, state_at
 from llbm_tools.common import check_open, program_place
+from llbm_tools.hashes import sha256
 from llbm_tools.images import packing
 from llbm_tools.llb.given_definitions import definition_at
-from llbm_tools.rules import filters
+from llbm_tools.rules.filters import Filters, Paths
 from llbm_tools.streams import Refused, program_at
 from llbm_tools.trees import entry_times
 
@@ -46,9 +46,9 @@ def source_of(word: str) -> Named:
     return Named(name, place, inputs.shown(place))
 
 
-def digest_of(paths: filters.Paths) -> str:
+def digest_of(paths: Paths) -> str:
     """Returns the digest of some paths."""
-    return hashlib.sha256(b"\0".join(sorted(paths))).hexdigest()
+    return sha256(b"\0".join(sorted(paths))).hexdigest()
 
 
 class Request:
@@ -63,7 +63,9 @@ class Request:
         self.ending = packing.PLAIN if self.is_output else packing.ending_of_result(options.result)
         self.data = b""
         self.config = b""
-        self.selected: list[filters.Paths | None] = []
+        # The paths that filters select of each source, None if all of it is given; and whose filters are applied.
+        self.selected: list[Paths | None] = []
+        self.filtered: set[str] = set()
 
     def places(self) -> list[str]:
         """Returns the places of all inputs."""
@@ -91,26 +93,9 @@ class Request:
             raise Refused(f"there is no such directory: {self.above}")
         self.data = definition_at(self.options.definition, lambda: program_at(self.options.llbm))
         self.config = self.image_config()
-        self.selected = self.select()
-
-    def select(self) -> list[filters.Paths | None]:
-        """Returns the paths that the filters of each source select of a directory; None if all of it is given."""
-        if self.options.no_filters or not filters.filtered_names(self.data):
-            return [None] * len(self.sources)
-        return [self.selected_of(source) for source in self.sources]
-
-    def selected_of(self, source: Named) -> filters.Paths | None:
-        """Returns the paths that the filters of a source select."""
-        # The help of the tool needs no sources, nor what reads them.
-        from llbm_tools.trees import source_texts
-
-        if inputs.is_pipe(source.place) or source_texts.kind_of(source.place) != source_texts.DIRECTORY:
-            return None
-        return filters.selected(self.data, source.name, source.place)
-
-    def filtered(self) -> set[str]:
-        """Returns the names of the sources whose filters are applied."""
-        return {source.name for source, paths in zip(self.sources, self.selected) if paths is not None}
+        filters = Filters(self.data, are_applied=not self.options.no_filters)
+        self.selected = [filters.selected(source.name, source.place) for source in self.sources]
+        self.filtered = filters.applied
 
     def image_config(self) -> bytes:
         """Returns the configuration for an image as JSON; one that is given for another result is refused."""
@@ -170,8 +155,8 @@ class Request:
         sources = [[source.name, source.shown, os.path.abspath(source.place)] for source in self.sources]
         return {
             **options,
-            "config": hashlib.sha256(self.config).hexdigest(),
-            "definition": hashlib.sha256(self.data).hexdigest(),
+            "config": sha256(self.config).hexdigest(),
+            "definition": sha256(self.data).hexdigest(),
             "program": [program, state_at(program) if program else None],
             "result": os.path.abspath(self.result),
             "selected": [None if paths is None else digest_of(paths) for paths in self.selected],

@@ -7,13 +7,13 @@ does not begin like one of any form, unless it is empty, nor what is no file.
 """
 
 import contextlib
-import hashlib
 import json
 import os
 import stat
 from collections.abc import Iterator
 from typing import BinaryIO, NamedTuple
 
+from llbm_tools.hashes import sha256
 from llbm_tools.inputs import reading
 from llbm_tools.streams import Failed, Refused, write_and_rename
 from llbm_tools.trees.kept_sources import Kept, Part, Stored, bytes_of
@@ -37,7 +37,7 @@ def state_at(place: str) -> State | None:
 
 def digest_of_file(place: str) -> str:
     """Returns the digest of a file."""
-    digest = hashlib.sha256()
+    digest = sha256()
     with open(place, "rb") as file:
         while piece := file.read(PIECE):
             digest.update(piece)

@@ -15,7 +15,7 @@ from llbm_tools.building.kept_builds import forget, state_at
 from llbm_tools.building.kept_changes import Memory
 from llbm_tools.building.program_runs import Program
 from llbm_tools.building.result_texts import Checked, read_line
-from llbm_tools.building.result_writing import DirectoryWriter, write_archive
+from llbm_tools.building.result_writing import DirectoryWriter
 from llbm_tools.building.source_readings import digests_of, kept_of, other_digests, recorders_of, resolved
 from llbm_tools.common import say
 from llbm_tools.images import packing
@@ -100,7 +100,7 @@ class Build:
         for note in source_names.word_notes(self.request.data, names) if names else []:
             say(note)
         heeded = FOLLOWED if self.options.links else ""
-        for note in notes.lines_of(self.request.data, self.request.filtered(), heeded):
+        for note in notes.lines_of(self.request.data, self.request.filtered, heeded):
             say(note)
         plan = sources_by_value.plan_of(self.request.data, llbm) if names and not self.options.by_value else None
         cause = ASKED if self.options.by_value else plan.all if plan else UNREADABLE
@@ -142,7 +142,9 @@ class Build:
         self.program = Program(llbm, definition, texts, self.texts)
         ran = self.following.finish if self.following and self.following.needs_outputs() else None
         if ran or self.options.progress:
-            result = self.program.run_session(self.options.workers, is_shown=self.options.progress, ran=ran)
+            from llbm_tools.building import session_runs
+
+            result = session_runs.run(self.program, self.options.workers, is_shown=self.options.progress, ran=ran)
         else:
             result = self.program.run(self.options.workers)
         if self.following:
@@ -185,6 +187,9 @@ class Build:
 
     def write_archive(self, result: str, place: str) -> None:
         """Writes the result as an archive, which is packed or made the layer of an image if its name says so."""
+        # Most results are directories.
+        from llbm_tools.building.archive_results import write_archive
+
         form, time = packing.form_of_name(place), entry_times.time_of_archive(self.options.mtime)
         is_image = self.request.ending == packing.IMAGE
         plain = os.path.join(self.directory, "plain") if form or is_image else place

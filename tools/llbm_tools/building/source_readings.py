@@ -1,12 +1,12 @@
 """What is read of the sources of a build for the next one, and which contents of two builds are the same."""
 
 import binascii
-import hashlib
 import os
 
 from llbm_tools.building.build_requests import Named
 from llbm_tools.building.given_sources import Given
 from llbm_tools.building.kept_builds import Build, File, digest_of_file, state_at
+from llbm_tools.hashes import sha256
 from llbm_tools.streams import Refused
 from llbm_tools.trees import links, source_texts
 from llbm_tools.trees.content_tokens import PIECE, Table, pieces_of, read_part
@@ -58,10 +58,10 @@ def resolved(content: bytes, digests: dict[int, bytes]) -> list[tuple[bool, byte
 
 def other_digests(table: Table) -> dict[int, str]:
     """Returns the digests of the contents that are parts of archives, and of symbolic links, by their tokens."""
-    found = {number: hashlib.sha256(links.content_of(target)).hexdigest() for number, target in table.targets.items()}
+    found = {number: sha256(links.content_of(target)).hexdigest() for number, target in table.targets.items()}
     for number, holder in enumerate(table.holders):
         if holder < 0:
-            digest = hashlib.sha256()
+            digest = sha256()
             for start in range(0, table.sizes[number], PIECE):
                 size = min(PIECE, table.sizes[number] - start)
                 digest.update(read_part(table.archives[-1 - holder].descriptor, table.starts[number] + start, size))

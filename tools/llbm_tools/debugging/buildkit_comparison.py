@@ -4,7 +4,7 @@ A tree that an execution made is not compared if its text is too long, nor is wh
 """
 
 import functools
-from collections.abc import Mapping
+from collections.abc import Collection, Mapping
 from typing import IO
 
 from llbm_tools.debugging.vertex_lines import Graph
@@ -20,14 +20,18 @@ NO_VERTEX = -1
 
 
 class BuildkitComparison:
-    """A session of a definition beside BuildKit, given the files of its sources' trees. After a step back a new
-    comparison begins."""
+    """A session of a definition beside BuildKit, given the files of its sources' trees, and the names of those to which
+    filters were applied. After a step back a new comparison begins."""
 
-    def __init__(self, session: Session, graph: Graph, data: bytes, sources: Mapping[str, IO[bytes]]) -> None:
+    def __init__(
+        self, session: Session, graph: Graph, data: bytes, sources: Mapping[str, IO[bytes]],
+        filtered: Collection[str] = (),
+    ) -> None:
         self.session = session
         self.graph = graph
         self.data = data
         self.sources = sources
+        self.filtered = filtered
         self.comparison: Comparison | None = None
         self.count = 0
         # The executions that have ended, and that the comparison has not asked for.
@@ -48,7 +52,8 @@ class BuildkitComparison:
         """The notes by vertex, but for those of rules."""
         vertices = {one.entry: vertex for vertex, one in enumerate(self.graph.vertices)}
         found: dict[int, list[RowNote]] = {}
-        for note in [] if self.missing else notes.notes_of(self.data, [], True):
+        all_notes = [] if self.missing else notes.notes_of(self.data, [], True)
+        for note in notes.without_applied(all_notes, self.data, self.filtered):
             if note.kind != notes.RULE:
                 found.setdefault(vertices.get(note.row, NO_VERTEX), []).append(note)
         return found

@@ -5,7 +5,8 @@ In: a definition, or the text of its entries, and NAME=PATH for each local sourc
 history and completion by the Tab key; else lines are read without one. Ctrl-C pauses a run that goes on, between two
 events. The program is --llbm PROGRAM, else $LLBM, else that of the installation or the repository, else the one on
 PATH; one that is not proved, and that nobody named, is named on standard error. --workers N has N workers, 1 by
-default, and --paths N shows at most N paths of one tree, 20 by default.
+default, and --paths N shows at most N paths of one tree, 20 by default. Of a directory only what the filters of its
+source select is given, as by `run`; with --no-filters all of it.
 
 Out: on standard output a line for each event that a command does, and what a command shows. What is refused is a line
 there too, and changes nothing.
@@ -23,6 +24,7 @@ from llbm_tools.command_line import Parser
 from llbm_tools.debugging import launching
 from llbm_tools.debugging.terminal import Terminal
 from llbm_tools.inputs import is_standard_input
+from llbm_tools.rules import filters
 from llbm_tools.sessions.session import SessionFailed
 from llbm_tools.streams import FAILED, Refused, exit_status
 from llbm_tools.trees.source_files import source_of
@@ -43,6 +45,7 @@ def parse_options() -> argparse.Namespace:
     parser.add_argument("definition", metavar="DEFINITION", help="the file of the definition, or of its text")
     parser.add_argument("source", nargs="*", type=source_of, metavar="NAME=PATH", help="a local source")
     parser.add_argument("--llbm", metavar="PROGRAM", default="", help="the program llbm")
+    filters.add_option(parser)
     parser.add_argument("--workers", metavar="N", type=number_of, default=1, help="the number of workers")
     parser.add_argument("--paths", metavar="N", type=number_of, default=USUAL_PATHS, help="the most paths of a tree")
     return parser.parse_args()
@@ -68,7 +71,10 @@ def debug(options: argparse.Namespace) -> int:
     if is_standard_input(options.definition):
         raise Refused("the definition has to be in a file: the commands come from standard input")
     program = launching.program_of({"llbm": options.llbm}, "--llbm PROGRAM")
-    given = {"definition": options.definition, "sources": dict(options.source), "workers": options.workers}
+    given = {
+        "definition": options.definition, "sources": dict(options.source), "workers": options.workers,
+        "noFilters": options.no_filters,
+    }
     # The program and all that is started for `try` must not end by Ctrl-C, which pauses the run.
     signal.signal(signal.SIGINT, signal.SIG_IGN)
     launched = launching.launch({**given, "llbm": program}, common.say, "--llbm PROGRAM")

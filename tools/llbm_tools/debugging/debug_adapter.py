@@ -5,8 +5,9 @@ folder that llbmd keeps, of which the newest build is taken, or one of its build
 or the `text` of its entries (a file with what `llbm dis` prints, or any text that `llbm asm` accepts), or both, with
 `sources`, an object with a directory, a tar (both with owner 0:0) or a tree text for each local source by its name;
 `files`, an object with the paths of files that the definition was made from, by their names there; `workers`, 2 by
-default; `stopOnEntry`, to stop before the first event; `stopAtEnd`, to stop after the last one, true by default; and
-`llbm`, the program, else $LLBM, else that of the installation or the repository, else the one on PATH; one that is not
+default; `stopOnEntry`, to stop before the first event; `stopAtEnd`, to stop after the last one, true by default;
+`noFilters`, to give all of a directory, and not only what the filters of its source select, as `run` does; and `llbm`,
+the program, else $LLBM, else that of the installation or the repository, else the one on PATH; one that is not
 proved, and that nobody named, is named on standard error.
 
 Out: responses and events on standard output. Threads are the workers of the run; the source is the text of the entries,

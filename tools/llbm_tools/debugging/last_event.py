@@ -5,7 +5,7 @@ an action is compared with the tree that the action was done on, and the worker 
 """
 
 import re
-from collections.abc import Mapping
+from collections.abc import Collection, Mapping
 from typing import IO, NamedTuple
 
 from llbm_tools.debugging import tree_changes, vertex_failures, worker_trees
@@ -84,15 +84,16 @@ def compared(name: str, before: Flat, after: Flat, most: int) -> Compared:
 
 
 class Watch:
-    """Says what events of a session of a definition changed; with the files of its sources' trees also what ends
-    otherwise in BuildKit."""
+    """Says what events of a session of a definition changed; with the files of its sources' trees, and the names of
+    those to which filters were applied, also what ends otherwise in BuildKit."""
 
     def __init__(
-        self, session: Session, graph: Graph, data: bytes, sources: Mapping[str, IO[bytes]] | None = None
+        self, session: Session, graph: Graph, data: bytes, sources: Mapping[str, IO[bytes]] | None = None,
+        filtered: Collection[str] = (),
     ) -> None:
         self.session = session
         self.graph = graph
-        self.comparison = None if sources is None else BuildkitComparison(session, graph, data, sources)
+        self.comparison = None if sources is None else BuildkitComparison(session, graph, data, sources, filtered)
 
     def outside(self) -> list[str]:
         """Returns what ends otherwise in BuildKit by entries that are no vertices."""

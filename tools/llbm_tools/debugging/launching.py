@@ -12,7 +12,7 @@ import re
 import shutil
 import subprocess
 import tempfile
-from collections.abc import Callable, Mapping
+from collections.abc import Callable, Collection, Mapping
 from concurrent.futures import ThreadPoolExecutor
 from typing import IO, NamedTuple
 
@@ -26,6 +26,7 @@ from llbm_tools.inputs import data_at, is_standard_input, opened_file
 from llbm_tools.llb import definition, given_definitions, names, no_definition, source_names
 from llbm_tools.llb.wire import Unreadable
 from llbm_tools.os_errors import os_error_text
+from llbm_tools.rules.filters import Filters
 from llbm_tools.sessions import builds
 from llbm_tools.sessions.session import Refusal, Session, SessionFailed
 from llbm_tools.sessions.shows import Show
@@ -35,7 +36,7 @@ from llbm_tools.trees.trees import check_length, checked_at
 
 ARGUMENTS = (
     "build", "definition", "text", "sources", "files", "workers", "stopOnEntry", "stopAtEnd", "noDebug", "llbm",
-    "token",
+    "token", "noFilters",
 )
 EDITOR_ARGUMENTS = (
     "type", "request", "name", "presentation", "preLaunchTask", "postDebugTask", "internalConsoleOptions",
@@ -54,7 +55,8 @@ Say = Callable[[str], None]
 
 class Launched(NamedTuple):
     """A session at its beginning, its graph, its entries for explanations, the name and the file of its text, the
-    files that the definition was made from, and the open files with the trees of its local sources, by name.
+    files that the definition was made from, the open files with the trees of its local sources, by name, and the names
+    of those to whose directories filters were applied.
     """
 
     session: Session
@@ -64,6 +66,7 @@ class Launched(NamedTuple):
     file: str | None
     origins: Origins
     sources: Mapping[str, IO[bytes]]
+    filtered: Collection[str] = ()
 
 
 @functools.cache
@@ -228,12 +231,14 @@ def missing_sources(cause: str, data: bytes, given: list[str]) -> list[str]:
 
 
 class Begun(NamedTuple):
-    """A session that has begun: its graph, the digests of the vertices, and the words of its sources."""
+    """A session that has begun: its graph, the digests of the vertices, the words of its sources, and the names of those
+    to whose directories filters were applied."""
 
     session: Session
     show: Show
     digests: list[str]
     words: list[str]
+    filtered: Collection[str]
 
 
 def begun(
@@ -241,14 +246,15 @@ def begun(
 ) -> Begun:
     """Starts the session of a launch, with temporary files in a folder."""
     workers, sources = workers_of(arguments), sources_of(arguments)
-    words, given_names = source_words(sources, folder, say), list(sources)
+    filters = Filters(data, are_applied=not argument(arguments, "noFilters", bool, False))
+    words, given_names = source_words(sources, folder, say, filters.selected), list(sources)
     for note in source_names.word_notes(data, given_names):
         say(note)
     file = os.path.join(folder, "definition")
     pathlib.Path(file).write_bytes(data)
     command = [program, "step", "--looks", "--ends", file, "--workers", str(workers), *words]
     try:
-        return Begun(*start_session(command, workers, named_entries), words)
+        return Begun(*start_session(command, workers, named_entries), words, filters.applied)
     except Refused as fault:
         check_texts(str(fault), words)
         raise Refused("; ".join([str(fault), *missing_sources(str(fault), data, given_names)])) from fault
@@ -265,7 +271,7 @@ def start(arguments: Object, folder: str, say: Say, program_argument: str) -> La
     entries, named_entries = entries_of(data, path or "the definition"), faults.Entries(data, lambda: program)
     with ThreadPoolExecutor(1) as pool:
         written = pool.submit(output_of, program, "dis", data) if text is None else None
-        session, show, digests, words = begun(arguments, program, data, named_entries, folder, say)
+        session, show, digests, words, filtered = begun(arguments, program, data, named_entries, folder, say)
         try:
             lines = text_of(written.result() if written else text or b"", text is not None, entries)
             graph = vertex_lines.graph_of(show, digests, lines, entries, [one.text for one in names.names_of(data)])
@@ -276,7 +282,7 @@ def start(arguments: Object, folder: str, say: Say, program_argument: str) -> La
             session.end()
             raise
     name, text_file = f"{os.path.basename(path)}.text", os.path.abspath(place) if place else None
-    return Launched(session, graph, named_entries, name, text_file, origins, trees)
+    return Launched(session, graph, named_entries, name, text_file, origins, trees, filtered)
 
 
 def launch(arguments: Object, say: Say, program_argument: str = "the argument llbm") -> Launched:

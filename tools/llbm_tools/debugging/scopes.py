@@ -45,7 +45,9 @@ class RunScopes:
         self.session = launched.session
         self.graph = launched.graph
         self.views = views
-        self.watch = Watch(launched.session, launched.graph, launched.entries.data, launched.sources)
+        self.watch = Watch(
+            launched.session, launched.graph, launched.entries.data, launched.sources, launched.filtered
+        )
         self.seen: Happened | None = None
 
     def close(self) -> None:

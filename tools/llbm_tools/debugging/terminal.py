@@ -77,7 +77,9 @@ class Terminal(cmd.Cmd):
         super().__init__()
         self.launched, self.program, self.paths = launched, program, paths
         self.views = Views(launched)
-        self.watch = Watch(launched.session, launched.graph, launched.entries.data, launched.sources)
+        self.watch = Watch(
+            launched.session, launched.graph, launched.entries.data, launched.sources, launched.filtered
+        )
         self.mover = Mover(launched.session, self.report, lambda event, message: None)
         self.breaks = PromptBreaks(launched, self.mover, self.watch)
         self.is_silent = self.is_interrupted = False

@@ -5,7 +5,6 @@ source has, if its other inputs have the same trees. Each content is given to th
 """
 
 import contextlib
-import hashlib
 import re
 import tempfile
 from collections.abc import Iterator, Mapping
@@ -13,6 +12,7 @@ from typing import NamedTuple
 
 from llbm_tools import inputs
 from llbm_tools.definitions.matched_vertices import DIGEST
+from llbm_tools.hashes import sha256
 from llbm_tools.llb.program_questions import ask
 
 LINE = re.compile(rf"[0-9]+ ({DIGEST}) agrees yes")
@@ -44,7 +44,7 @@ def short_text(place: str) -> Iterator[str]:
             if not entry.content:
                 file.write(line)
                 continue
-            digest = hashlib.sha256(entry.content).hexdigest().encode()
+            digest = sha256(entry.content).hexdigest().encode()
             start = line_start(b"f", entry.mode, (entry.user, entry.group))
             file.write(start + digest + b" %b\n" % path_of(entry.names))
         file.flush()

@@ -27,7 +27,7 @@ import sys
 from llbm_tools import common
 from llbm_tools.command_line import Parser
 from llbm_tools.definitions import graphviz, inspected_graph, inspection
-from llbm_tools.inputs import check_inputs, check_there, data_at, input_lines
+from llbm_tools.inputs import STANDARD_INPUT, check_inputs, check_there, data_at, input_lines
 from llbm_tools.llb import definition, names, no_definition
 from llbm_tools.llb.given_definitions import definition_at
 from llbm_tools.llb.ops import Op
@@ -39,6 +39,14 @@ COLORS = {
     "kept": "palegreen", "same": "palegreen", "fed": "gold", "changed": "gold", "new": "lightblue",
     "cached": "lightgray",
 }
+
+
+def given_show() -> Show:
+    """Returns the graph whose lines are on standard input."""
+    text = b"".join(input_lines())
+    if not text:
+        raise Refused(f"not the lines of llbm show: there are no bytes: {STANDARD_INPUT}")
+    return show_of(text.decode("ascii", "backslashreplace"))
 
 
 def counts_of(vertex: Vertex) -> list[str]:
@@ -133,7 +141,7 @@ def drawn(options: argparse.Namespace) -> str:
     if options.definition is not None:
         check_inputs(None, options.definition)
         check_there(options.definition)
-    show = show_of(b"".join(input_lines()).decode("ascii", "backslashreplace"))
+    show = given_show()
     return digraph(show, labels_of(show, options.definition, options.llbm), colors_of(show, options.impact))
 
 

@@ -25,15 +25,15 @@ import json
 
 from llbm_tools.command_line import Parser
 from llbm_tools.definitions import inspection
-from llbm_tools.definitions.graph_of_show import check
+from llbm_tools.definitions.graph_of_show import check, given_show
 from llbm_tools.definitions.inspection import Entry
-from llbm_tools.inputs import check_inputs, check_there, input_lines
+from llbm_tools.inputs import check_inputs, check_there
 from llbm_tools.llb import definition, names, no_definition
 from llbm_tools.llb.given_definitions import definition_at
 from llbm_tools.llb.names import Name
 from llbm_tools.llb.ops import LOCAL, Field, Message, Op, fields_of
 from llbm_tools.llb.wire import Unreadable
-from llbm_tools.sessions.shows import Edge, Show, Vertex, show_of
+from llbm_tools.sessions.shows import Edge, Show, Vertex
 from llbm_tools.streams import Refused, exit_status, program_to_ask, write_output
 
 Members = dict[str, object]
@@ -140,8 +140,7 @@ def converted(options: argparse.Namespace) -> str:
     if options.definition is not None:
         check_inputs(None, options.definition)
         check_there(options.definition)
-    show = show_of(b"".join(input_lines()).decode("ascii", "backslashreplace"))
-    return json_of(show, options.definition, options.llbm)
+    return json_of(given_show(), options.definition, options.llbm)
 
 
 def convert(options: argparse.Namespace) -> None:

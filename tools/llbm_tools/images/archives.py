@@ -12,7 +12,6 @@ import tarfile
 from collections.abc import Iterable, Iterator
 from typing import IO, BinaryIO, cast
 
-from llbm_tools.images.packing import ENDINGS
 from llbm_tools.streams import PIECE, Refused
 
 NAME, MAGIC = slice(0, 100), slice(257, 265)
@@ -27,11 +26,6 @@ EMPTY: type[tarfile.HeaderError] = getattr(tarfile, "EmptyHeaderError")
 # The size of an archive without an entry, as GNU tar writes it; others write less.
 MOST_OF_NO_ENTRY = 10_240
 UNREADABLE = (ArithmeticError, AttributeError, LookupError, RecursionError, TypeError, ValueError)
-
-
-def is_archive(place: str) -> bool:
-    """Returns whether a path is read as an archive: by its name, unless it is a directory."""
-    return place.endswith(ENDINGS) and not os.path.isdir(place)
 
 
 def check_no_entry(rest: bytes) -> None:

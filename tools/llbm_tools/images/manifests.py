@@ -11,9 +11,10 @@ from collections.abc import Iterator
 from typing import NamedTuple, TypeVar
 
 from llbm_tools.images.image_files import Files
+from llbm_tools.images.packing import INDEX, LAYOUT
 from llbm_tools.streams import Refused
 
-LAYOUT, INDEX, MANIFEST = "oci-layout", "index.json", "manifest.json"
+MANIFEST = "manifest.json"
 LAYOUT_VERSION = "imageLayoutVersion"
 MOST_OF_JSON = 1 << 24
 MOST_NESTED = 4

@@ -34,8 +34,15 @@ NAMES = tuple(form.name for form in FORMS)
 PLAIN = ".tar"
 ENDINGS = (PLAIN, *(ending for form in FORMS for ending in form.endings))
 IMAGE = ".oci"
+# The file by which a directory is an image, and its index.
+LAYOUT, INDEX = "oci-layout", "index.json"
 MOST_OF_MAGIC = max(len(form.magic) for form in FORMS)
 PACKER, UNPACKING = "zstd", "-d"
+
+
+def is_archive(place: str) -> bool:
+    """Returns whether a path is read as an archive: by its name, unless it is a directory."""
+    return place.endswith(ENDINGS) and not os.path.isdir(place)
 
 
 def form_of_start(start: bytes) -> Form | None:

@@ -4,12 +4,12 @@ The messages and the numbering are those of docs/FORMATS.md. Most rules of the p
 """
 
 import functools
-import hashlib
 import heapq
 import re
 import shlex
 from typing import NamedTuple
 
+from llbm_tools.hashes import sha256
 from llbm_tools.inputs import data_at
 from llbm_tools.llb import op_reading
 from llbm_tools.llb.ops import FileAction, Input, Op
@@ -38,7 +38,7 @@ def entries_in(place: str) -> list[bytes]:
 
 def digest_of(entry: bytes) -> str:
     """Returns the digest by which inputs name an entry."""
-    return "sha256:" + hashlib.sha256(entry).hexdigest()
+    return "sha256:" + sha256(entry).hexdigest()
 
 
 def op_of(row: int, entry: bytes) -> Op:

@@ -1,7 +1,10 @@
 """Tests in the browser of definitions that the machine refuses: they are drawn, and adopted by one press."""
 
+import subprocess
+
 from llbm_tools.definitions import adopted_ops
 from llbm_tools.llb.findings import findings_of
+from llbm_tools.llb.program_questions import ask
 from llbm_tools.page import assets
 from llbm_tools.page.page_driver import Page, check, same
 
@@ -13,6 +16,12 @@ EMPTY = b"d 0755 0 0 /\n"
 def foreign_definition() -> bytes:
     """Returns the example that a client of BuildKit could have made of a Dockerfile of three lines."""
     return (assets.EXAMPLES / "foreign.llb").read_bytes()
+
+
+def canonical(data: bytes, program: str) -> bytes:
+    """Returns a definition with the canonical bytes of each op: what the page changes it has written so."""
+    ops = ask(program, "show", "--ops", given=data).text
+    return subprocess.run([program, "asm"], input=ops.encode(), capture_output=True, check=True).stdout
 
 
 def draw(page: Page, data: bytes) -> None:
@@ -49,7 +58,7 @@ def what_is_refused_is_drawn(page: Page) -> None:
 
 def adopted_by_one_press(page: Page) -> None:
     """Adopts a definition: the sources are asked for by name, with what they were, and the run is that of `adopt`."""
-    data = foreign_definition()
+    data = canonical(foreign_definition(), page.program)
     draw(page, data)
     page.click("adopt")
     page.browser.wait("document.getElementById('open-view').open")

@@ -91,6 +91,7 @@ MODULES = [
     "running.command_line_pages",
     "running.running",
     "running.checking",
+    "running.filtered_runs",
     "statuses",
     "llb.properties",
     "definitions.impacting",

@@ -1,5 +1,6 @@
 """The notes of a definition: what has no effect in llbm, what can end otherwise in BuildKit, what kills its daemon."""
 
+from collections.abc import Collection
 from typing import NamedTuple
 
 from llbm_tools.llb import definition, findings, names
@@ -43,20 +44,24 @@ def local_name(entry: bytes) -> str | None:
     return source.identifier.removeprefix(LOCAL) if source and local else None
 
 
-def lines_of(data: bytes, filtered: set[str], heeded: str = "") -> list[str]:
+def without_applied(found: list[RowNote], data: bytes, filtered: Collection[str]) -> list[RowNote]:
+    """Returns the notes but for those of the filters of the local sources of some names, which are applied."""
+    entries = definition.entries_of(data) if filtered else []
+    applied = {row for row, entry in enumerate(entries) if local_name(entry) in filtered}
+    return [one for one in found if one.name not in FILTERS or one.row not in applied]
+
+
+def lines_of(data: bytes, filtered: Collection[str], heeded: str = "") -> list[str]:
     """Returns a line for each field of a definition that has no effect in a run: none for the filters of the local
     sources of some names, which are applied, none for a note that is heeded, and none at all where the program is not
     there, or where it can't read the definition, since llbm says then what is wrong.
     """
     try:
-        found = notes_of(data, [], False)
+        found = without_applied(notes_of(data, [], False), data, filtered)
         shown = [name.shown() for name in names.names_of(data)] if found else []
-        entries = definition.entries_of(data) if found else []
-        applied = {row for row, entry in enumerate(entries) if local_name(entry) in filtered}
     except (rules_program.Missing, Refused, Unreadable):
         return []
-    left = [one for one in found if one.name != heeded and (one.name not in FILTERS or one.row not in applied)]
-    return [": ".join(filter(None, [f"note {one.words()}", shown[one.row]])) for one in left]
+    return [": ".join(filter(None, [f"note {one.words()}", shown[one.row]])) for one in found if one.name != heeded]
 
 
 def notes_of(data: bytes, found: list[Finding], is_like: bool) -> list[RowNote]:

@@ -2,7 +2,8 @@
 
 In: a definition (`-` for standard input), and NAME=PATH for each local source: a directory, a tar (both with owner 0:0)
 or a tree text. The program is --llbm PROGRAM, else $LLBM, else that of the installation or the repository, else the one
-on PATH; one that is not proved, and that nobody named, is named on standard error.
+on PATH; one that is not proved, and that nobody named, is named on standard error. Of a directory only what the filters
+of its source select is given, as by `run`; with --no-filters all of it.
 
 Out: on standard output a line for each action, merge or source that ends otherwise, with the path, what BuildKit has
 there, what is there here, and the rule, as docs/BUILDKIT.md lists them; at most --paths N for each, 20 by default. A
@@ -27,7 +28,7 @@ from llbm_tools import common, inputs, objects
 from llbm_tools.command_line import Parser
 from llbm_tools.debugging import launching
 from llbm_tools.llb import definition, names
-from llbm_tools.rules import notes, rules_program
+from llbm_tools.rules import filters, notes, rules_program
 from llbm_tools.rules.comparison import WHOLE, Comparison, End, Executions, Outputs, StepLines
 from llbm_tools.rules.one_execution import Program
 from llbm_tools.running import explain_run
@@ -84,7 +85,7 @@ class Compared:
 
     def notes(self) -> list[str]:
         """Returns lines for fields without an effect here."""
-        found = notes.notes_of(self.data, [], False)
+        found = notes.without_applied(notes.notes_of(self.data, [], False), self.data, self.launched.filtered)
         shown = [name.shown() for name in names.names_of(self.data)] if found else []
         return ["\t".join(filter(None, [f"note {one.words()}", shown[one.row]])) for one in found]
 
@@ -133,7 +134,10 @@ def compare(options: argparse.Namespace) -> int:
     common.check_open(sys.stdout, "standard output")
     with tempfile.TemporaryDirectory(prefix="llbm-as-buildkit-") as folder:
         file = inputs.stored_data(options.definition, folder, "definition")
-        given = {"definition": file, "sources": dict(options.source), "workers": 1, "llbm": options.llbm}
+        given = {
+            "definition": file, "sources": dict(options.source), "workers": 1, "llbm": options.llbm,
+            "noFilters": options.no_filters,
+        }
         launched = launching.launch(given, common.say, "--llbm PROGRAM")
     try:
         compared = Compared(launched.entries.data, launched, launching.program_of(given, "--llbm PROGRAM"), options)
@@ -160,6 +164,7 @@ def parse_options() -> argparse.Namespace:
     add("--tree", action="store_true", help="print the tree that BuildKit would make")
     add("--json", action="store_true", help="print one object")
     add("--llbm", metavar="PROGRAM", default="", help="the program llbm")
+    filters.add_option(parser)
     add("--paths", metavar="N", type=explain_run.number_of, default=20, help="the most paths of a step")
     return parser.parse_args()
 

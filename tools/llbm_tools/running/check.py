@@ -30,6 +30,7 @@ from xml.etree import ElementTree
 from llbm_tools import objects
 from llbm_tools.command_line import Parser
 from llbm_tools.common import printable
+from llbm_tools.rules import filters
 from llbm_tools.running import stored_cases
 from llbm_tools.running.stored_cases import FAILED, PASSED, UPDATED, Ended, Runner
 from llbm_tools.streams import Refused, exit_status, of_place, program_at, write_and_rename, write_output
@@ -121,7 +122,7 @@ def parse_options() -> argparse.Namespace:
     parser.add_argument("folder", metavar="FOLDER", help="the folder of the cases")
     parser.add_argument("--only", metavar="TEXT", default="", help="run the cases whose paths have this text")
     parser.add_argument("--update", action="store_true", help="store what the program writes")
-    parser.add_argument("--no-filters", action="store_true", help="give all of a directory")
+    filters.add_option(parser)
     parser.add_argument("--json", action="store_true", help="print one object")
     parser.add_argument("--junit", metavar="FILE", help="also write the cases as XML")
     parser.add_argument("--jobs", metavar="N", type=positive, default=os.cpu_count() or 1, help="run N at once")

@@ -2,7 +2,8 @@
 
 In: a definition (`-` for standard input), and NAME=PATH for each local source: a directory, a tar (both with owner 0:0)
 or a tree text. The program is --llbm PROGRAM, else $LLBM, else that of the installation or the repository, else the one
-on PATH; one that is not proved, and that nobody named, is named on standard error.
+on PATH; one that is not proved, and that nobody named, is named on standard error. Of a directory only what the filters
+of its source select is given, as by `run`; with --no-filters all of it.
 
 Out: on standard output the run by one worker, vertex by vertex: a line with its number, its kind and its name or what
 it does; below it a line for each micro-step, with the paths that it added, removed or changed, or why it failed, and a
@@ -30,6 +31,7 @@ from llbm_tools.debugging import launching
 from llbm_tools.debugging.event_lines import changed_lines, otherwise_lines
 from llbm_tools.debugging.last_event import Happened, Watch
 from llbm_tools.debugging.variables import Views
+from llbm_tools.rules import filters
 from llbm_tools.running import summary
 from llbm_tools.sessions.session import Event, Refusal, Session, SessionFailed
 from llbm_tools.streams import FAILED, Refused, exit_status
@@ -89,7 +91,8 @@ def blocked_lines(session: Session, views: Views) -> Iterator[Head | str]:
 def run_lines(launched: launching.Launched, options: argparse.Namespace) -> Iterator[Head | str]:
     """Yields the lines of a whole run."""
     session, views = launched.session, Views(launched)
-    watch = Watch(session, launched.graph, launched.entries.data, None if options.summary else launched.sources)
+    sources = None if options.summary else launched.sources
+    watch = Watch(session, launched.graph, launched.entries.data, sources, launched.filtered)
     if watch.missing():
         common.say(watch.missing())
     if not options.summary:
@@ -103,7 +106,10 @@ def launched_by(options: argparse.Namespace) -> launching.Launched:
     """Starts the run on a copy of the definition."""
     with tempfile.TemporaryDirectory(prefix="llbm-explain-") as folder:
         file = inputs.stored_data(options.definition, folder, "definition")
-        given = {"definition": file, "sources": dict(options.source), "workers": 1, "llbm": options.llbm}
+        given = {
+            "definition": file, "sources": dict(options.source), "workers": 1, "llbm": options.llbm,
+            "noFilters": options.no_filters,
+        }
         return launching.launch(given, common.say, "--llbm PROGRAM")
 
 
@@ -170,6 +176,7 @@ def parse_options() -> argparse.Namespace:
     parser.add_argument("definition", metavar="DEFINITION", help="the file of the definition, or -")
     parser.add_argument("source", nargs="*", type=source_of, metavar="NAME=PATH", help="a local source")
     parser.add_argument("--llbm", metavar="PROGRAM", default="", help="the program llbm")
+    filters.add_option(parser)
     parser.add_argument("--paths", metavar="N", type=number_of, default=USUAL_PATHS, help="the most paths of a step")
     parser.add_argument("--summary", action="store_true", help="print one line for each step, and sizes of outputs")
     parser.add_argument("--json", action="store_true", help="print one object")

@@ -10,7 +10,7 @@ from collections.abc import Iterator
 from typing import NamedTuple
 
 from llbm_tools.common import say
-from llbm_tools.rules import filters
+from llbm_tools.rules.filters import Filters
 from llbm_tools.running.program_words import Words, read_words
 from llbm_tools.trees.source_files import source_file
 
@@ -28,10 +28,8 @@ class Texts:
 
     def __init__(self, read: Words, data: bytes, folder: str, *, has_filters: bool) -> None:
         self.read = read
-        self.data = data
         self.folder = folder
-        self.has_filters = has_filters
-        self.filtered: set[str] = set()
+        self.filters = Filters(data, are_applied=has_filters)
         self.made = 0
 
     def word(self, word: str) -> str:
@@ -39,12 +37,9 @@ class Texts:
         name, _, place = word.partition("=")
         if not os.path.isdir(place):
             return word
-        selected = filters.selected(self.data, name, place) if self.has_filters else None
-        if selected is not None:
-            self.filtered.add(name)
         self.made += 1
         text = os.path.join(self.folder, f"{self.made}.tree")
-        return f"{name}={source_file(name, place, text, say, selected)}"
+        return f"{name}={source_file(name, place, text, say, self.filters.selected(name, place))}"
 
     def words(self, words: list[str]) -> list[str]:
         """Returns all words; the file of a session's definition is no source, whatever its name is."""
@@ -64,4 +59,4 @@ def given(words: list[str], read: Words, data: bytes | None, *, has_filters: boo
     with tempfile.TemporaryDirectory(prefix="llbm-run-") as folder:
         texts = Texts(read, data or b"", folder, has_filters=has_filters)
         made = texts.words(words)
-        yield Given(made, read_words(made), texts.filtered)
+        yield Given(made, read_words(made), texts.filters.applied)

@@ -37,7 +37,7 @@ from llbm_tools import commands
 from llbm_tools.command_line import Parser, print_all
 from llbm_tools.common import MOST_BYTES, say
 from llbm_tools.definitions import faults, next_commands
-from llbm_tools.rules import notes
+from llbm_tools.rules import filters, notes
 from llbm_tools.running import given_trees, run_records
 from llbm_tools.running.command_words import COMMANDS, USUALLY
 from llbm_tools.running.failure_reasons import Reasons
@@ -46,7 +46,7 @@ from llbm_tools.running.program_words import HELP, read_words
 from llbm_tools.streams import PIECE, Refused, exit_status, program_at
 
 WORKERS = "--workers"
-OPTION, RECORD, NO_FILTERS = "--llbm", "--record", "--no-filters"
+OPTION, RECORD, NO_FILTERS = "--llbm", "--record", filters.OPTION
 # The statuses of a run that was not refused: the result was printed, or a vertex failed.
 WAS_RUN = (0, 1)
 UNNAMED = b"fault %d " % MISSING
@@ -208,8 +208,7 @@ def parser() -> argparse.ArgumentParser:
     )
     parser.add_argument(OPTION, metavar="PROGRAM", help="the program llbm; before the program's words")
     parser.add_argument(RECORD, metavar="FOLDER", help="keep the run in a new folder; before the program's words")
-    about = "give all of each directory, whatever its source's filters leave out; before the program's words"
-    parser.add_argument(NO_FILTERS, action="store_true", help=about)
+    filters.add_option(parser, "; before the program's words")
     names = [command.name for command in COMMANDS]
     parser.add_argument(
         "word", metavar="WORD", nargs=argparse.REMAINDER, choices=names, help="the words of llbm's command line"

@@ -17,7 +17,7 @@ from collections.abc import Iterator
 from typing import NamedTuple
 
 from llbm_tools import common
-from llbm_tools.rules import filters
+from llbm_tools.rules.filters import Filters
 from llbm_tools.running.program_words import read_words
 from llbm_tools.streams import Failed, Refused
 from llbm_tools.trees import diff_of_trees
@@ -129,8 +129,7 @@ class Runner:
         place = os.path.join(folder, path)
         if not name or not equals or not os.path.exists(place) or word.startswith("-"):
             return word
-        is_filtered = self.has_filters and os.path.isdir(place)
-        selected = filters.selected(data, name, place) if is_filtered else None
+        selected = Filters(data, are_applied=self.has_filters).selected(name, place)
         file = source_file(name, place, text, common.say, selected)
         return word if file == place else f"{name}={file}"
 

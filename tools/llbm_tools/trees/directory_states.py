@@ -6,10 +6,8 @@ at, which takes longer than the call of the system. So the C library is called d
 """
 
 import array
-import ctypes
 import functools
 import os
-import platform
 import stat
 from collections.abc import Callable
 
@@ -54,6 +52,10 @@ def words_of(data: bytes) -> "array.array[int]":
 @functools.cache
 def c_call() -> Callable[[int, bytes, int, int], int] | None:
     """Returns the C library's call that looks at an entry of an open directory; None if its structure is not known."""
+    # Only a build that is repeated looks at many entries: others need not import these.
+    import ctypes
+    import platform
+
     if platform.machine() != "x86_64" or platform.system() != "Linux":
         return None
     try:
@@ -73,6 +75,8 @@ def states_in(directory: int, names: list[bytes]) -> "array.array[int]":
     if call is None:
         found = (os.stat(name, dir_fd=directory, follow_symlinks=False) for name in names)
         return array.array("q", (word for one in found for word in state_of(one)))
+    import ctypes
+
     buffer = ctypes.create_string_buffer(SIZE * len(names))
     place = ctypes.addressof(buffer)
     for name in names:

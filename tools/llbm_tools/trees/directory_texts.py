@@ -6,13 +6,13 @@ can't be in a tree is named on standard error and left out with everything below
 
 import collections
 import errno
-import hashlib
 import os
 import stat
 from collections.abc import Iterable
 from typing import BinaryIO, NamedTuple
 
 from llbm_tools.common import MOST_BYTES, MOST_NAMES, is_name
+from llbm_tools.hashes import sha256
 from llbm_tools.os_errors import in_words
 from llbm_tools.streams import Failed, of_place
 from llbm_tools.trees import links
@@ -210,7 +210,7 @@ class DirectoryText:
         target = os.readlink(name, dir_fd=above.descriptor)
         content = self.contents(target)
         if above.kept:
-            above.kept.note(hashlib.sha256(target).digest(), None)
+            above.kept.note(sha256(target).digest(), None)
         owner = self.owner or (found.st_uid, found.st_gid)
         self.text.write(line_start(b"f", links.MODE, owner) + b"%b %b\n" % (content.hex().encode(), path))
         self.leave_attributes(path, attributes_of(path_in(above.descriptor, name)))
@@ -238,7 +238,7 @@ class DirectoryText:
 
     def value(self, above: Place, path: bytes, name: bytes) -> None:
         """Writes the line of a file with its content."""
-        digest = hashlib.sha256()
+        digest = sha256()
         with open(os.open(name, FILE, dir_fd=above.descriptor), "rb", buffering=0) as content:
             found = os.fstat(content.fileno())
             if not stat.S_ISREG(found.st_mode):

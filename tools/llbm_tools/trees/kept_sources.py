@@ -8,13 +8,13 @@ that were kept, and older than the last reading, has the same names; its times m
 import array
 import bisect
 import functools
-import hashlib
 import itertools
 import os
 import stat
 from collections.abc import Iterable, Iterator
 from typing import BinaryIO, NamedTuple
 
+from llbm_tools.hashes import sha256
 from llbm_tools.streams import Failed, Refused
 from llbm_tools.trees.content_tokens import DIRECTORY, FILE, stamp_of
 from llbm_tools.trees.directory_states import BYTES, SECOND, STATE, state_of, states_in
@@ -297,8 +297,8 @@ def changed_directories(kept: Kept, root: int, hidden: Hidden, began: int) -> li
 def digest_at(directory: int, name: bytes, found: os.stat_result) -> bytes:
     """Returns the digest of a file of an open directory, which has to be in this state before and after."""
     if stat.S_ISLNK(found.st_mode):
-        return hashlib.sha256(os.readlink(name, dir_fd=directory)).digest()
-    digest = hashlib.sha256()
+        return sha256(os.readlink(name, dir_fd=directory)).digest()
+    digest = sha256()
     descriptor = os.open(name, FILE, dir_fd=directory)
     try:
         while piece := os.read(descriptor, PIECE):

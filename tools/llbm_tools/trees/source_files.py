@@ -24,6 +24,11 @@ def source_of(word: str) -> tuple[str, str]:
     return name, path
 
 
+def whole(_name: str, _path: str) -> Selected:
+    """Selects all of a directory."""
+    return None
+
+
 def source_file(name: str, path: str, place: str, say: Say, selected: Selected = None) -> str:
     """Returns the file with the tree text of a local source, which is written to `place` if it is no text; of a
     directory the paths that are selected, if some are.
@@ -49,11 +54,15 @@ def source_file(name: str, path: str, place: str, say: Say, selected: Selected =
     return place
 
 
-def source_words(sources: Mapping[str, str], folder: str, say: Say) -> list[str]:
-    """Returns the words of local sources, given their paths by name; texts that are made are put into a folder."""
+def source_words(
+    sources: Mapping[str, str], folder: str, say: Say, selected: Callable[[str, str], Selected] = whole
+) -> list[str]:
+    """Returns the words of local sources, given their paths by name; texts that are made are put into a folder. What
+    is selected of a directory is asked for by the name of the source and the path."""
     words = []
     for number, (name, path) in enumerate(sources.items()):
         if not name or "=" in name or name.startswith("-"):
             raise Refused(f"this can't be the name of a local source on a command line: {name!r}")
-        words.append(f"{name}={source_file(name, path, os.path.join(folder, f'{number}.tree'), say)}")
+        text = os.path.join(folder, f"{number}.tree")
+        words.append(f"{name}={source_file(name, path, text, say, selected(name, path))}")
     return words

@@ -9,14 +9,13 @@ import contextlib
 import os
 import re
 from collections.abc import Callable, Iterator
-from typing import BinaryIO, NamedTuple, cast
+from typing import BinaryIO, NamedTuple
 
 from llbm_tools import common, inputs
-from llbm_tools.images import archives, packing, unpacking
-from llbm_tools.images.archive_entries import Placed, entries_of
+from llbm_tools.images import packing
 from llbm_tools.streams import Failed, Refused, temporary_file
-from llbm_tools.trees import archive_texts, links
-from llbm_tools.trees.content_tokens import Table, stamp_of, token
+from llbm_tools.trees import links
+from llbm_tools.trees.content_tokens import Table, token
 from llbm_tools.trees.directory_texts import DirectoryText, Text, Values
 from llbm_tools.trees.kept_sources import Recorder
 from llbm_tools.trees.left_out import LeftOut
@@ -48,49 +47,25 @@ def start_of(place: str) -> bytes:
         return file.read(TAR_PLACE + len(TAR_MAGIC))
 
 
+def is_image(place: str) -> bool:
+    """Returns whether a directory or an archive is an image."""
+    from llbm_tools.images import unpacking
+
+    return unpacking.is_image(place)
+
+
 def kind_of(place: str) -> str:
     """Returns what a place is read as: a directory, an archive, an image that is one of these, or a text.
 
     A file is an archive by its name, or by its first bytes; what begins like the text of a tree is one.
     """
     if os.path.isdir(place):
-        return IMAGE if unpacking.is_image(place) else DIRECTORY
+        return IMAGE if os.path.exists(os.path.join(place, packing.LAYOUT)) and is_image(place) else DIRECTORY
     start = start_of(place) if os.path.isfile(place) else b""
     is_packed = packing.form_of_start(start) or start[TAR_PLACE:] == TAR_MAGIC
-    if TREE_TEXT.match(start) or not archives.is_archive(place) and not is_packed:
+    if TREE_TEXT.match(start) or not packing.is_archive(place) and not is_packed:
         return TEXT
-    return IMAGE if unpacking.is_image(place) else ARCHIVE
-
-
-class ArchiveText(archive_texts.Text):
-    """The text of an archive or of an image: with contents if it is one of values, else with tokens."""
-
-    def __init__(self, given: archive_texts.Entries, source: "Source", numbers: dict[int, int]) -> None:
-        super().__init__(given, source.text, source.reading.owner, source.left_out, source.reading.contents)
-        self.values = source.text if isinstance(source.text, Values) else None
-        self.numbers = numbers
-        self.table = source.table
-
-    def content(self, placed: Placed) -> None:
-        """Writes a file's content or its token, and a space after it."""
-        member = placed.member
-        if not member.size:
-            self.output.write(b"- ")
-            return
-        if self.values or member.sparse is not None:
-            self.value(placed)
-        else:
-            content = self.table.add_part(self.numbers[id(placed.archive)], member.offset_data, member.size)
-            self.output.write(token(content).hex().encode())
-        self.output.write(b" ")
-
-    def value(self, placed: Placed) -> None:
-        """Writes a file's content, or the token of a copy of it."""
-        if not self.values:
-            self.output.write(token(self.table.add_copy(placed.content())).hex().encode())
-            return
-        for piece in placed.content():
-            self.values.add(piece, placed.member.name)
+    return IMAGE if is_image(place) else ARCHIVE
 
 
 class Source:
@@ -126,34 +101,6 @@ class Source:
         self.hard_links = walked.hard_links()
         self.finish()
         return walked.is_whole
-
-    def read_archive(self, place: str) -> None:
-        """Writes the text of an archive."""
-        given = self.kept.enter_context(inputs.opened_file(place))
-        stamp = stamp_of(os.fstat(given.fileno()))
-        stored = [self.kept.enter_context(temporary_file("the archive")) for _ in range(2)]
-        bare = packing.open_unpacked(given, *stored)
-        archive = archives.open_archive(bare)
-        numbers = {id(archive): self.table.add_archive(bare.fileno(), place, stamp if bare is given else None)}
-        self.write(entries_of(archive), numbers)
-
-    def read_image(self, place: str) -> None:
-        """Writes the text of an image."""
-        files = self.kept.enter_context(unpacking.files_at(place))
-        entries = self.kept.enter_context(unpacking.tree_of(files, None, *self.reading[2:4]))
-        numbers: dict[int, int] = {}
-        for placed in entries.values():
-            if id(placed.archive) not in numbers:
-                file = cast(BinaryIO, placed.archive.fileobj)
-                numbers[id(placed.archive)] = self.table.add_archive(file.fileno(), "a temporary file", None)
-        self.write(entries, numbers)
-
-    def write(self, entries: archive_texts.Entries, numbers: dict[int, int]) -> None:
-        """Writes the text of the entries of an archive or an image."""
-        text = ArchiveText(entries, self, numbers)
-        text.write()
-        self.hard_links = text.hard_links()
-        self.finish()
 
     def read_text(self, place: str, shown: str) -> None:
         """Writes the text in a file; its entries keep their owners."""
@@ -194,7 +141,11 @@ class Source:
         with inputs.named(shown or place):
             if kind == DIRECTORY:
                 return self.read_directory(place, hidden, record, selected)
-            (self.read_image if kind == IMAGE else self.read_archive)(place)
+            # Most sources are directories and texts, and need not import what reads others.
+            from llbm_tools.trees import archived_sources
+
+            self.hard_links = archived_sources.write(self, place, kind == IMAGE)
+            self.finish()
         return True
 
 

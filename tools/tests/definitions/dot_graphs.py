@@ -3,6 +3,8 @@
 from tests import base
 from tests.base import Folder, run, run_closed, run_into
 
+NO_LINES = b"not the lines of llbm show: there are no bytes: standard input\n"
+
 
 class GraphOfShow(Folder):
     """The digraph of a graph's lines."""
@@ -71,11 +73,15 @@ class GraphOfShow(Folder):
         self.check_refused(self.lines[:3] + [b"result 2.1"], 4, "2.1 is not an output of a vertex above")
 
     def test_texts_with_a_faulty_end_are_refused(self):
-        self.check_refused([], 1, "there is no result", b"")
         self.check_refused(self.lines[:3], 4, "there is no result")
         self.check_refused(self.lines, 4, "the line does not end with a newline", b"")
         self.check_refused(self.lines + [b"rest"], 5, "the line does not end with a newline", b"")
         self.check_refused(self.lines + [b"result 2.0"], 5, "the result is not the last line")
+
+    def test_an_input_without_lines_is_named(self):
+        place = self.file(b"definition", b"")
+        for words in ((), ("--definition", place)):
+            self.check_run(run("graph-of-show", *words), 2, b"", NO_LINES)
 
     def test_command_lines_are_refused(self):
         self.assertEqual(run("graph-of-show", "word").returncode, 2)
@@ -84,7 +90,7 @@ class GraphOfShow(Folder):
     def test_failing_standard_streams_are_reported(self):
         with open("/dev/full", "wb") as output:
             done = run_into(output, "graph-of-show", "--definition", self.file(b"definition", b""))
-        self.assertEqual((done.returncode, done.stderr), (2, b"there is no result: line 1\n"))
+        self.assertEqual((done.returncode, done.stderr), (2, NO_LINES))
         done = run_closed(0, "graph-of-show")
         self.check_run(done, 3, b"", b"standard input is closed\n")
 

@@ -1,4 +1,4 @@
-"""Tests that the page finds and adopts as `lint` and `adopt` do: the same findings, the same bytes and words."""
+"""Tests that the page finds and adopts as `lint` and `adopt` do: the same findings, ops and words."""
 
 import base64
 import json
@@ -11,7 +11,7 @@ from unittest import mock
 
 from llbm_tools.definitions import adopted_ops
 from llbm_tools.fuzzing import changed_inputs
-from llbm_tools.llb import wire
+from llbm_tools.llb import definition, wire
 from llbm_tools.llb.findings import findings_of
 from llbm_tools.llb.program_questions import ask
 from llbm_tools.page import assets, foreign_cases
@@ -37,7 +37,7 @@ for (const line of fs.readFileSync(0, 'utf8').split('\\n').filter(Boolean)) {
   let adoption = null;
   if (!findings.some(({ number }) => number === 81)) {
     const rows = new Rows(entriesOf(machine, definition).rows, findings);
-    const { data, changes, sources } = adopted(definition, rows, findings, digestOf);
+    const { data, changes, sources } = adopted(machine, definition, rows, findings);
     const told = sources.map(({ name, identifier }) => [name, identifier]);
     adoption = [Buffer.from(data).toString('base64'), changes.map(({ row, words }) => [row, words]), told];
   }
@@ -57,8 +57,19 @@ def adoption_of(data):
         made = adopted_ops.adopt(data, foreign_cases.ALL, base.llbm)
     except wire.Unreadable:
         return None
-    told = [list(one) for one in made.sources]
-    return [base64.b64encode(made.data).decode(), [list(one) for one in made.changes], told]
+    return [said_of(made.data), [list(one) for one in made.changes], [list(one) for one in made.sources]]
+
+
+def said_of(data):
+    """Returns the ops of a definition and its other records, in which entries are named by their rows: in the page the
+    program writes the entries that are changed, as canonical bytes, so that they can have other digests."""
+    records = list(wire.records(data))
+    digests = [definition.digest_of(record.held).encode() for record in records if record.field == 1]
+    ops = ask(base.llbm, "show", "--ops", given=data).text.encode()
+    parts = [ops, *(record.text for record in records if record.field != 1)]
+    for row, digest in reversed(list(enumerate(digests))):
+        parts = [part.replace(digest, b"row %d" % row) for part in parts]
+    return parts
 
 
 def examples():
@@ -114,13 +125,15 @@ class LikeTheTools(Folder):
         """Compares findings and adoptions of definitions, and returns how many are refused."""
         tables = self.file(b"tables.json", assets.tables())
         given = "".join(map(self.line_of, filter(None, definitions)))
-        words = ["node", "--input-type=module", "-e", SCRIPT, PAGE.as_uri(), tables]
+        words = ["node", "--input-type=module", "-e", SCRIPT, PAGE.as_uri(), tables, base.llbm]
         done = subprocess.run(words, input=given.encode(), capture_output=True, timeout=base.GUARD)
         self.assertEqual((done.returncode, done.stderr), (0, b""))
         refused = 0
         for data, line in zip(filter(None, definitions), done.stdout.splitlines(), strict=True):
             found, made = json.loads(line)
             self.assertEqual(found, lines_of(findings_of(data, base.llbm)))
+            if made:
+                made[0] = said_of(base64.b64decode(made[0]))
             self.assertEqual(made, adoption_of(data))
             refused += bool(found)
         return refused

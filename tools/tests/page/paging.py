@@ -204,7 +204,7 @@ class InNode(Folder):
           const found = verticesOf(machineOf('', {json.dumps(ops)}), definition, digests).map((v) => {text});
           console.log(JSON.stringify(found));"""
         words = ["node", "--input-type=module", "-e", script, PAGE.as_uri(), self.file(b"tables.json", assets.tables())]
-        done = subprocess.run(words, capture_output=True, timeout=base.GUARD)
+        done = subprocess.run([*words, base.llbm], capture_output=True, timeout=base.GUARD)
         self.assertEqual((done.returncode, done.stderr), (0, b""))
         return json.loads(done.stdout)
 

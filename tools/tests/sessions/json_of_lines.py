@@ -66,10 +66,14 @@ class JsonOfShow(Conversion):
         self.check_refused(3, "there is no result", *self.lines)
         self.check_refused(3, "the line does not end with a newline", *self.lines, "result 1.1", end="")
         self.check_refused(4, "the result is not the last line", *self.lines, "result 1.1", "result 1.1")
-        self.check_refused(1, "there is no result", end="")
 
     def test_failing_standard_streams_are_reported(self):
         self.check_failing_streams(b"0 merge steps 0 outputs 1 inputs -\nresult 0.0\n")
+
+    def test_an_input_without_lines_is_named(self):
+        told = b"not the lines of llbm show: there are no bytes: standard input\n"
+        for words in ((), ("--definition", self.file(b"definition", b""))):
+            self.check_run(run(self.tool, *words), 2, b"", told)
 
 
 class JsonOfRecord(Conversion):
