@@ -1,6 +1,5 @@
 /** Builds that a server, `llbm-tools page --serve`, has: a link of the page opens one, with its trees and record. */
 
-import { eventsOfRecord } from './record.mjs';
 import { definitionOf } from './reading.mjs';
 
 const MARK = '#build=';
@@ -40,8 +39,17 @@ export function fragmentFor(name) {
   return MARK + encodeURIComponent(name);
 }
 
+// How many workers a record needs.
+function workersIn(record) {
+  let most = -1;
+  for (const [, worker] of record.matchAll(/^[0-9]+ (?:claim|step|settle|cancel) ([0-9]+)/gm)) {
+    most = Math.max(most, Number(worker));
+  }
+  return most < 0 ? USUAL_WORKERS : most + 1;
+}
+
 /**
- * Returns a build: what a session is opened with, the events of its record, why it failed, and a function that loads
+ * Returns a build: what a session is opened with, the text of its record, why it failed, and a function that loads
  * what ends otherwise in BuildKit. Throws with a cause in words where the server does not have it.
  */
 export async function buildOf(machine, name) {
@@ -50,11 +58,10 @@ export async function buildOf(machine, name) {
   const bytes = new Uint8Array(await (await loaded(`${at}/definition`)).arrayBuffer());
   const locals = await Promise.all(about.sources.map(async (source, number) => (
     [source, await (await loaded(`${at}/tree/${number}`)).text()])));
-  const record = about.hasRecord ? eventsOfRecord(await (await loaded(`${at}/record`)).text()) : [];
-  const workers = record.reduce((most, event) => Math.max(most, event.worker + 1), record.length ? 1 : USUAL_WORKERS);
-  const definition = about.isText ? (await definitionOf(machine, bytes, true)).definition : bytes;
+  const record = about.hasRecord ? await (await loaded(`${at}/record`)).text() : '';
+  const { definition } = await definitionOf(machine, bytes, about.isText);
   return {
-    name, definition, locals, workers, record, error: about.error,
+    name, definition, locals, workers: workersIn(record), record, error: about.error,
     notes: async () => (await loaded(`${at}/notes`)).json(),
   };
 }

@@ -9,7 +9,10 @@ import { LOCAL } from './local_names.mjs';
 import { Metadata, namesIn, placeInWords } from './metadata.mjs';
 import { STATUS } from './machine.mjs';
 import { endsOf, Ops } from './op_text.mjs';
+import { atOnce } from './turns.mjs';
 
+// So many entries are made before the next turn.
+const MOST_AT_ONCE = 500;
 const MODES = ['shared', 'private', 'locked'];
 const CACHE = 3;
 const NOTHING = { line: '', actions: [], commands: [], mounts: [] };
@@ -137,18 +140,26 @@ export function opsText(machine, definition) {
   return new TextDecoder().decode(saidOf(machine, definition).ops.text);
 }
 
-/** Returns the entries of a definition by row, and the first one of each digest; they are kept with its bytes. */
-export function entriesOf(machine, definition) {
+/** Returns what `entriesOf` does, when the generator ends. */
+export function* readingEntries(machine, definition) {
   if (known.has(definition)) return known.get(definition);
   const { digests, ops: said } = saidOf(machine, definition);
-  const about = new Metadata(definition);
+  const about = yield* new Metadata().reading(definition);
   const ops = new Ops(said, digests);
-  const rows = digests.map((digest, row) => new Entry(row, digest, about, ops));
-  const first = new Map();
-  for (const entry of rows) if (!first.has(entry.digest)) first.set(entry.digest, entry);
+  const [rows, first] = [[], new Map()];
+  for (const [row, digest] of digests.entries()) {
+    rows.push(new Entry(row, digest, about, ops));
+    if (!first.has(digest)) first.set(digest, rows[row]);
+    if (row % MOST_AT_ONCE === 0) yield;
+  }
   const found = { rows, first };
   known.set(definition, found);
   return found;
+}
+
+/** Returns the entries of a definition by row, and the first one of each digest; they are kept with its bytes. */
+export function entriesOf(machine, definition) {
+  return atOnce(readingEntries(machine, definition));
 }
 
 /** Returns the entries that are vertices, given the digests of the vertices by number. */

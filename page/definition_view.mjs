@@ -42,6 +42,7 @@ export class DefinitionView {
     this.lines = [];
     this.row = null;
     this.asked = 0;
+    // Whether the field has something else than what is open.
     this.isEdited = false;
     this.isShown = (wanted() || (innerWidth < LEAST_WINDOW ? 'hidden' : 'shown')) === 'shown';
     this.field.addEventListener('input', () => this.wrote());
@@ -65,21 +66,26 @@ export class DefinitionView {
   show() {
     by('views').classList.toggle('with-text', this.isShown);
     by('to-text').setAttribute('aria-pressed', String(this.isShown));
-    if (this.isShown && this.definition) this.fill();
+    if (this.isShown && this.definition && !this.isEdited) this.fill();
   }
 
-  /** Shows another definition. `text` is what a person wrote, if it came from there. */
-  open(definition, text = null) {
+  /** Shows another definition. `text` is what a person wrote, and `isOwn` says that it was written in this view. */
+  open(definition, text = null, isOwn = false) {
     this.definition = definition;
     this.text = text;
     this.row = null;
     this.say('');
     by('views').classList.toggle('with-text', this.isShown);
-    // What a person is writing stays as it is.
-    const isWriting = this.isEdited && text === this.field.value;
-    this.isEdited = false;
-    if (isWriting) this.count();
-    else if (this.isShown) this.fill();
+    // What a person is writing stays as it is, and is read later if it is more than what was read. Else it is gone.
+    this.isEdited = isOwn && text !== this.field.value;
+    if (isOwn) {
+      this.count();
+      return;
+    }
+    clearTimeout(this.waits);
+    this.asked += 1;
+    document.body.dataset.edited = 'yes';
+    if (this.isShown) this.fill();
   }
 
   // Puts the text into the field, or says why there is none.
@@ -129,7 +135,8 @@ export class DefinitionView {
       if (asked !== this.asked) return;
       const refusal = refusalOf(this.machine, definition);
       if (refusal) throw new Error(refusal);
-      this.onEdit(definition, text);
+      await this.onEdit(definition, text);
+      if (asked !== this.asked) return;
     } catch ({ message }) {
       if (asked !== this.asked) return;
       const line = /^fault 16[12] ([0-9]+)/.exec(message);

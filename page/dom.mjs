@@ -44,20 +44,3 @@ export function oncePerFrame(call) {
     });
   };
 }
-
-/** Returns a promise that is kept after frames and what a person did meanwhile, but without the pause of a timer. */
-export function nextTurn() {
-  return new Promise((done) => {
-    const { port1, port2 } = new MessageChannel();
-    port1.onmessage = () => {
-      port1.close();
-      done();
-    };
-    port2.postMessage(null);
-  });
-}
-
-/** Goes on with a generator in turns, between which the page draws, until it ends or `isAsked` is false. */
-export async function inTurns(work, isAsked) {
-  while (isAsked() && !work.next().done) await nextTurn();
-}

@@ -6,6 +6,12 @@
  * is before another follows from the ways between them, which are few.
  */
 
+import { eventOf } from './record.mjs';
+import { linesOf } from './tree_text.mjs';
+
+// So many events of a record are laid before the next turn.
+const MOST_AT_ONCE = 1000;
+
 /**
  * A place on a way: the event that leads to it, null at the beginning, and the places after it. The first of these is
  * on the same way; each other one begins a way. `claims` has the vertex that each worker runs here.
@@ -61,13 +67,30 @@ export class Ways {
     return next;
   }
 
-  /** Lays events ahead of the beginning, as a way that was gone already; none of them is done yet. */
-  lay(events) {
-    let place = this.root;
+  /** Adds the events of lines, and returns them. A step is of the vertex that its worker claimed last. */
+  take(lines) {
+    const events = lines.map(eventOf).filter(Boolean);
     for (const event of events) {
+      event.vertex ??= this.at.claims.get(event.worker);
+      this.add(event);
+    }
+    return events;
+  }
+
+  /**
+   * Lays the events of a record ahead of the beginning, as a way that was gone already; none of them is done yet. They
+   * are there when the generator ends.
+   */
+  * laying(record) {
+    let place = this.root;
+    for (const line of linesOf(record)) {
+      const event = eventOf(line);
+      if (!event) continue;
+      event.vertex ??= place.claims.get(event.worker) ?? null;
       const next = new Place(place, event, 0);
       place.after.push(next);
       place = next;
+      if (place.number % MOST_AT_ONCE === 0) yield;
     }
     this.keep(place);
     this.last = place;
@@ -106,6 +129,18 @@ export class Ways {
     const found = [];
     for (let one = place; one; one = one.before) found.push(one);
     return found.reverse();
+  }
+
+  /** Returns the place of a way that has so many events before it. */
+  placeAt(way, number) {
+    let one = this.newest[way];
+    while (one.number > number) one = one.before;
+    return one;
+  }
+
+  /** Returns the lines that bring a new session to the present place. */
+  commands() {
+    return this.path().filter(({ event }) => event).map(({ event }) => event.command);
   }
 
   // Returns whether the present place is a given one or before it.

@@ -4,14 +4,16 @@
  */
 
 import { BOX, boxesOfRow, rowsIn } from './layout.mjs';
+import { atOnce } from './turns.mjs';
 
 const WORDS = ['unneeded', 'waiting', 'ready', 'done', 'taken', 'blocked', 'running', 'failed', 'refused'];
 // These are painted over all others.
 const LAST = new Set(['running', 'failed', 'refused']);
 const LEAST_TEXT = 13;
 const MOST_EDGES = 3000;
-// In each turn the rows of about so many boxes are gone over.
-const MOST_BOXES = 8000;
+// In each turn the rows of about so many boxes are gone over, or so many rectangles painted.
+const MOST_BOXES = 2000;
+const MOST_RECTANGLES = 500;
 
 /** Returns the colors of the page's statuses, edges, texts and marks, as they are now. */
 export function colorsOf(element) {
@@ -81,14 +83,15 @@ function addRow(found, placed, row, view, wordOf) {
   put(word, from, to);
 }
 
-function paint(context, found, colors, isSmall) {
+function* painting(context, found, colors, isSmall) {
   for (const word of found.order()) {
     const { edge, fill } = colors.of[word];
     context.fillStyle = isSmall ? edge : fill;
     context.strokeStyle = edge;
-    for (const { x, y, width, height } of found.of.get(word)) {
+    for (const [number, { x, y, width, height }] of found.of.get(word).entries()) {
       context.fillRect(x, y, width, height);
       if (!isSmall) context.strokeRect(x + 0.5, y + 0.5, width - 1, height - 1);
+      if (number % MOST_RECTANGLES === 0) yield;
     }
   }
 }
@@ -107,17 +110,17 @@ export function* paintingColumns(context, placed, columns, colors, wordOf) {
       addRow(found, placed, row, view, wordOf);
       count += placed.rows[row].length;
       if (count >= MOST_BOXES) {
-        yield count;
+        yield;
         count = 0;
       }
     }
   }
-  paint(context, found, colors, BOX.height * columns[0][1].scaleY < 4);
+  yield* painting(context, found, colors, BOX.height * columns[0][1].scaleY < 4);
 }
 
 /** Paints the boxes that a view touches. */
 export function paintBoxes(context, placed, view, colors, wordOf) {
-  for (const turns = paintingColumns(context, placed, [[0, view]], colors, wordOf); !turns.next().done;);
+  atOnce(paintingColumns(context, placed, [[0, view]], colors, wordOf));
 }
 
 /** Paints the labels of the boxes that a view touches, where they can be read. */

@@ -6,14 +6,11 @@
 import { by, draw, make, oncePerFrame } from './dom.mjs';
 import { colorsOf, paintBoxes, paintEdges, paintFound, paintLabels, viewOf } from './graph_paint.mjs';
 import { GraphWindow } from './graph_window.mjs';
-import { BOX, boxesIn, edgeWay, layout, neighbor, vertexAt } from './layout.mjs';
+import { BOX, boxesIn, edgesIn, neighbor, placing, vertexAt } from './layout.mjs';
 import { Overview } from './overview.mjs';
 import { VertexSearch } from './vertex_search.mjs';
 
 const AROUND = 120;
-// Edges in one gap are so many pixels apart, on so many tracks.
-const SHIFT = 3;
-const SHIFTS = 5;
 const MOST_OF_A_LINE = 60;
 // Below this scale boxes are painted.
 const FAR = 0.45;
@@ -27,6 +24,20 @@ const NEXT_BREAK = { none: 'claim', claim: 'settle', settle: 'none' };
 
 function short(text) {
   return text.length > MOST_OF_A_LINE ? `${text.slice(0, MOST_OF_A_LINE - 1)}…` : text;
+}
+
+// A vertex by its number, or a row of a definition that is refused by its own.
+function labelOf({ number, kind, row }) {
+  return `${row === undefined ? number : `row ${row}`} ${kind}`;
+}
+
+function saidOf(entry) {
+  return entry?.name || entry?.line || '';
+}
+
+// How wide the box of a vertex has to be so that its label is not cut.
+function widthFor(vertex, entry) {
+  return LETTER.beside + LETTER.width * Math.max(short(saidOf(entry)).length, labelOf(vertex).length + 12);
 }
 
 /** The view of a session's graph. `onSelect` is called with a vertex, `onBreak` with a vertex and a kind. */
@@ -51,20 +62,29 @@ export class GraphView {
     matchMedia('(prefers-color-scheme: dark)').addEventListener('change', () => this.recolor());
   }
 
-  /** Shows another graph. `entries` has what the definition says of each vertex, `notes` what BuildKit does. */
-  open(graph, entries, notes = null) {
+  /** Returns where all of a graph is, when the generator ends. */
+  * placing(graph, entries) {
+    const isMeasured = graph.vertices.length <= MOST_MEASURED;
+    const wanted = (vertex) => (isMeasured ? widthFor(graph.vertices[vertex], entries[vertex]) : BOX.width);
+    const placed = yield* placing(graph, this.frame.clientWidth, wanted);
+    return { placed, spans: yield* edgesIn(graph, placed) };
+  }
+
+  /**
+   * Shows another graph, given where all of it is. `entries` has what the definition says of each vertex, `notes` what
+   * BuildKit does.
+   */
+  open({ placed, spans }, graph, entries, notes = null) {
     this.graph = graph;
     this.entries = entries;
     this.notes = notes;
-    const isMeasured = graph.vertices.length <= MOST_MEASURED;
-    const room = this.frame.clientWidth;
-    this.placed = layout(graph, room, isMeasured ? (vertex) => this.wanted(vertex) : undefined);
+    this.placed = placed;
+    this.spans = spans;
     this.selected = null;
     this.statuses = null;
     this.breaks = { claim: new Set(), settle: new Set() };
     for (const box of this.shown.values()) box.remove();
     this.shown.clear();
-    this.spans = this.edgeSpans();
     this.lines = new Map();
     this.near = null;
     this.edgeWindow = '';
@@ -76,16 +96,6 @@ export class GraphView {
     this.overview.open(this.placed);
     this.search.open(graph, entries, (vertex) => this.wordOf(vertex));
     this.render();
-  }
-
-  // How wide the box of a vertex has to be so that its label is not cut.
-  wanted(vertex) {
-    return LETTER.beside + LETTER.width * Math.max(short(this.saidOf(vertex)).length, this.labelOf(vertex).length + 12);
-  }
-
-  saidOf(vertex) {
-    const entry = this.entries[vertex];
-    return entry?.name || entry?.line || '';
   }
 
   wordOf(vertex) {
@@ -142,17 +152,6 @@ export class GraphView {
     const { left, top, right, bottom } = this.window.seen();
     if (x >= left && x + width <= right && y >= top && y + BOX.height <= bottom) return;
     this.window.center({ x: x + width / 2, y: y + BOX.height / 2 });
-  }
-
-  // The edges with the window that each of them lies in.
-  edgeSpans() {
-    const edges = this.graph.vertices.flatMap(({ number, inputs }) => inputs.map(({ vertex }) => [vertex, number]));
-    return edges.map(([from, to], number) => {
-      const way = edgeWay(this.placed, from, to, ((number % SHIFTS) - (SHIFTS - 1) / 2) * SHIFT);
-      const across = way.map(({ x }) => x);
-      const [top, bottom] = [way[0].y, way.at(-1).y];
-      return { from, to, way, left: Math.min(...across), right: Math.max(...across), top, bottom };
-    });
   }
 
   /** Draws what is inside the window. */
@@ -243,7 +242,7 @@ export class GraphView {
 
   box(vertex) {
     const { x, y, width } = this.placed.boxes[vertex];
-    const said = this.saidOf(vertex);
+    const said = saidOf(this.entries[vertex]);
     const main = make(
       'button', { class: 'vertex', type: 'button', title: said, onclick: () => this.onSelect(vertex) },
       make('span', { class: 'vertex-name', text: this.labelOf(vertex) }), make('span', { class: 'vertex-status' }),
@@ -256,10 +255,9 @@ export class GraphView {
     return make('div', { class: 'box', style, 'data-vertex': vertex }, main, mark);
   }
 
-  // A vertex by its number, or a row of a definition that is refused by its own.
+  /** Returns the label of a vertex. */
   labelOf(vertex) {
-    const { kind, row } = this.graph.vertices[vertex];
-    return `${row === undefined ? vertex : `row ${row}`} ${kind}`;
+    return labelOf(this.graph.vertices[vertex]);
   }
 
   breakOf(vertex) {

@@ -1,7 +1,9 @@
 /**
  * Where the boxes of a graph are: in layers, each vertex below all that it needs; a wide layer has several rows. The
- * boxes of one row are as wide as its labels, if there is room.
+ * boxes of one row are as wide as its labels, if there is room. What is long is done by generators, in turns.
  */
+
+import { atOnce } from './turns.mjs';
 
 export const BOX = { width: 168, widest: 460, height: 54, across: 24, down: 46, margin: 24 };
 
@@ -11,26 +13,38 @@ const MOST_IN_ROW = 24;
 const PART = 36;
 // The most rows that an edge goes through one by one.
 const MOST_ROWS = 12;
+// Edges in one gap are so many pixels apart, on so many tracks.
+const SHIFT = 3;
+const SHIFTS = 5;
+
+// So many vertices, or edges, are gone over before the next turn.
+const MOST_AT_ONCE = 1000;
 
 // The layer of a vertex is the length of the longest way to it. Inputs have smaller numbers than their users.
-function layersOf(vertices) {
+function* layersOf(vertices) {
   const level = [];
   const layers = [];
   for (const { number, inputs } of vertices) {
     level[number] = inputs.reduce((most, { vertex }) => Math.max(most, level[vertex] + 1), 0);
     (layers[level[number]] ??= []).push(number);
+    if (number % MOST_AT_ONCE === 0) yield;
   }
   return layers;
 }
 
-function usersOf(vertices) {
-  const users = vertices.map(() => []);
-  for (const { number, inputs } of vertices) for (const { vertex } of inputs) users[vertex].push(number);
-  return users;
+// The vertices above each vertex, and those below it.
+function* joinedIn(vertices) {
+  const [above, below] = [[], vertices.map(() => [])];
+  for (const { number, inputs } of vertices) {
+    above.push(inputs.map(({ vertex }) => vertex));
+    for (const { vertex } of inputs) below[vertex].push(number);
+    if (number % MOST_AT_ONCE === 0) yield;
+  }
+  return { above, below };
 }
 
 // Each layer is put in the order of the middles of what its vertices are joined with, down and up in turn.
-function ordered(layers, above, below) {
+function* ordered(layers, above, below) {
   const place = new Float64Array(above.length);
   const keys = new Float64Array(above.length);
   const put = (layer) => layer.forEach((vertex, i) => { place[vertex] = i - (layer.length - 1) / 2; });
@@ -45,19 +59,22 @@ function ordered(layers, above, below) {
       for (const vertex of layer) keys[vertex] = middle(vertex, isDown ? above : below);
       layer.sort((a, b) => keys[a] - keys[b] || a - b);
       put(layer);
+      yield;
     }
   }
 }
 
 // The rows of layers, none of which has too many boxes: a large graph is about as wide as it is high.
-function rowsOf(layers, vertices) {
+function* rowsOf(layers, vertices) {
   const square = Math.round(Math.sqrt((vertices * (BOX.height + BOX.down)) / (BOX.width + BOX.across)));
   const most = Math.max(MOST_IN_ROW, square);
-  return layers.flatMap((layer) => {
-    const count = Math.ceil(layer.length / most);
-    const length = Math.ceil(layer.length / count);
-    return Array.from({ length: count }, (_, i) => layer.slice(i * length, (i + 1) * length));
-  });
+  const rows = [];
+  for (const layer of layers) {
+    const length = Math.ceil(layer.length / Math.ceil(layer.length / most));
+    for (let at = 0; at < layer.length; at += length) rows.push(layer.slice(at, at + length));
+    yield;
+  }
+  return rows;
 }
 
 // How wide the boxes of a row are: as its labels want, if the row then is not wider than there is room.
@@ -68,32 +85,47 @@ function widthIn(vertices, room, wanted) {
   return Math.min(most, BOX.width + Math.ceil((need - BOX.width) / PART) * PART);
 }
 
-/**
- * Returns the rows of a graph, how wide the boxes of each are, each box's place by vertex, and the size of the whole.
- * `room` is how wide the window is, `wanted` returns how wide the label of a vertex is.
- */
-export function layout(graph, room = 0, wanted = () => BOX.width) {
-  const layers = layersOf(graph.vertices);
-  const above = graph.vertices.map(({ inputs }) => inputs.map(({ vertex }) => vertex));
-  const below = usersOf(graph.vertices);
-  ordered(layers, above, below);
-  const rows = rowsOf(layers, graph.vertices.length);
-  const longest = rows.reduce((most, vertices) => Math.max(most, vertices.length), 1);
-  const most = Math.max(longest * (BOX.width + BOX.across) - BOX.across, room - 2 * BOX.margin);
-  const widths = rows.map((vertices) => widthIn(vertices, most, wanted));
-  const sizes = rows.map((vertices, row) => vertices.length * (widths[row] + BOX.across) - BOX.across);
-  const width = sizes.reduce((one, other) => Math.max(one, other), 0);
+// Where the box of each vertex is, by the widths of the rows.
+function* boxesOf(rows, widths, sizes, width) {
   const boxes = [];
-  rows.forEach((vertices, row) => {
+  for (const [row, vertices] of rows.entries()) {
     const left = BOX.margin + (width - sizes[row]) / 2;
     const y = BOX.margin + row * (BOX.height + BOX.down);
     vertices.forEach((vertex, column) => {
       const x = Math.round(left + column * (widths[row] + BOX.across));
       boxes[vertex] = { x, y, width: widths[row], row, column };
     });
-  });
+    yield;
+  }
+  return boxes;
+}
+
+/**
+ * Returns, when the generator ends, the rows of a graph, how wide the boxes of each are, each box's place by vertex,
+ * and the size of the whole. `room` is how wide the window is, `wanted` returns how wide the label of a vertex is.
+ */
+export function* placing(graph, room, wanted) {
+  const layers = yield* layersOf(graph.vertices);
+  const { above, below } = yield* joinedIn(graph.vertices);
+  yield* ordered(layers, above, below);
+  const rows = yield* rowsOf(layers, graph.vertices.length);
+  const longest = rows.reduce((most, vertices) => Math.max(most, vertices.length), 1);
+  const most = Math.max(longest * (BOX.width + BOX.across) - BOX.across, room - 2 * BOX.margin);
+  const widths = [];
+  for (const vertices of rows) {
+    widths.push(widthIn(vertices, most, wanted));
+    yield;
+  }
+  const sizes = rows.map((vertices, row) => vertices.length * (widths[row] + BOX.across) - BOX.across);
+  const width = sizes.reduce((one, other) => Math.max(one, other), 0);
+  const boxes = yield* boxesOf(rows, widths, sizes, width);
   const height = 2 * BOX.margin + rows.length * (BOX.height + BOX.down) - BOX.down;
   return { rows, widths, boxes, below, width: width + 2 * BOX.margin, height };
+}
+
+/** Returns what `placing` does, at once. */
+export function layout(graph, room = 0, wanted = () => BOX.width) {
+  return atOnce(placing(graph, room, wanted));
 }
 
 // The middle of the gap of a row that is nearest to a place: between two boxes, or beside the first or the last one.
@@ -132,6 +164,21 @@ export function edgeWay(placed, from, to, shift = 0) {
     }
   }
   return [...found, end];
+}
+
+/** Returns the edges of a graph, when the generator ends: each with its way, and the window that it lies in. */
+export function* edgesIn(graph, placed) {
+  const found = [];
+  for (const { number, inputs } of graph.vertices) {
+    for (const { vertex } of inputs) {
+      const way = edgeWay(placed, vertex, number, ((found.length % SHIFTS) - (SHIFTS - 1) / 2) * SHIFT);
+      let [left, right] = [way[0].x, way[0].x];
+      for (const { x } of way) [left, right] = [Math.min(left, x), Math.max(right, x)];
+      found.push({ from: vertex, to: number, way, left, right, top: way[0].y, bottom: way.at(-1).y });
+      if (found.length % MOST_AT_ONCE === 0) yield;
+    }
+  }
+  return found;
 }
 
 /** Returns the rows that a window of the layout touches: the first, and the last. */

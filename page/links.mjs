@@ -4,12 +4,16 @@ import { buildNamedBy, buildOf } from './build_link.mjs';
 import { explained } from './faults.mjs';
 import { reloaded } from './kept_state.mjs';
 import { canBeDrawn } from './open_view.mjs';
-import { assembled, refusalOf } from './session.mjs';
+import { definitionOf } from './reading.mjs';
+import { refusalOf } from './session.mjs';
 import { givenBy } from './share.mjs';
 
 const OPEN = '#open';
 // What a page without a link opens: an example in which each worker has done so many steps.
 const LIVE = { name: 'workers', steps: 5 };
+
+// How often the page was asked to open what its link carries. The last one wins, however long each takes.
+let count = 0;
 
 /**
  * Opens what the link of the page carries, or an example that runs if it carries nothing; shows the view *Open* if it
@@ -17,16 +21,21 @@ const LIVE = { name: 'workers', steps: 5 };
  */
 export async function openLink(page, machine) {
   page.say('');
+  count += 1;
+  const mine = count;
+  const isAsked = () => count === mine;
   const name = buildNamedBy(location.hash);
   if (name !== null) {
-    await openServed(page, machine, name);
+    await openServed(page, machine, name, isAsked);
     return;
   }
   try {
     const given = location.hash === OPEN ? null : await givenBy(location.hash) ?? await reloaded();
-    if (given) openGiven(page, machine, given);
-    else if (location.hash === OPEN || !await openBegun(page)) page.openView.show();
+    if (!isAsked()) return;
+    if (given) await openGiven(page, machine, given, isAsked);
+    else if (location.hash === OPEN || !await openBegun(page, isAsked)) page.openView.show();
   } catch (fault) {
+    if (!isAsked()) return;
     const words = `The link is not readable: ${fault.message}. ${explained(fault.message)}`.trim();
     page.say(words);
     page.openView.show();
@@ -35,18 +44,22 @@ export async function openLink(page, machine) {
 }
 
 // Opens what a link carries; a definition that the machine refuses for its rows is drawn.
-function openGiven(page, machine, given) {
-  const definition = assembled(machine, given.text);
-  if (canBeDrawn(refusalOf(machine, definition))) page.openForeign(definition);
-  else page.open({ ...given, definition, written: given.text });
+async function openGiven(page, machine, given, isAsked) {
+  const { definition } = await definitionOf(machine, new TextEncoder().encode(given.text), true);
+  if (!isAsked()) return;
+  if (canBeDrawn(refusalOf(machine, definition))) await page.openForeign(definition);
+  else await page.open({ ...given, definition, written: given.text });
 }
 
-async function openServed(page, machine, name) {
+async function openServed(page, machine, name, isAsked) {
   let build = null;
   try {
     build = await buildOf(machine, name);
-    page.openBuild(build);
+    if (!isAsked()) return;
+    if (refusalOf(machine, build.definition)) await page.openForeign(build.definition);
+    else await page.openBuild(build);
   } catch (fault) {
+    if (!isAsked()) return;
     const words = `The build ${name} can't be opened: ${fault.message}. ${explained(fault.message)}`.trim();
     page.say(words);
     if (build) page.openView.takeBuild(build);
@@ -56,10 +69,11 @@ async function openServed(page, machine, name) {
 }
 
 // Opens the example that runs; returns whether it is there and could be loaded.
-async function openBegun(page) {
+async function openBegun(page, isAsked) {
   if (!page.openView.hasExample(LIVE.name)) return false;
   try {
-    page.openBegun(await page.openView.exampleGiven(LIVE.name), LIVE.steps);
+    const given = await page.openView.exampleGiven(LIVE.name);
+    if (isAsked()) await page.open({ ...given, steps: LIVE.steps });
     return true;
   } catch (fault) {
     page.say(`The example that is shown first can't be opened: ${fault.message}`);

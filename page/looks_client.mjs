@@ -1,7 +1,8 @@
 /** The page's side of the worker that makes its looks. */
 
+import { Calls } from './calls.mjs';
 import { saidOf } from './definition.mjs';
-import { nextTurn } from './dom.mjs';
+import { nextTurn } from './turns.mjs';
 
 // The lines of so many events are sent at once.
 const MOST_LINES = 5000;
@@ -11,48 +12,38 @@ const textOf = (places) => places.map(({ event }) => event.line).join('\n');
 /** Sends calls to a worker, and returns promises of their answers. */
 export class Looker {
   constructor() {
-    this.waiting = new Map();
-    this.count = 0;
-    this.worker = null;
+    this.calls = null;
+    this.session = null;
   }
 
   /** Begins anew with a session of a machine, at its beginning. What was asked before gets no answer. */
   open(machine, session, given) {
-    this.worker?.terminate();
-    this.waiting.clear();
-    this.worker = new Worker('looks_worker.mjs', { type: 'module' });
-    this.worker.addEventListener('message', ({ data }) => this.take(data));
-    this.worker.addEventListener('error', (event) => this.fail(event.message || 'the worker ended'));
+    this.calls?.end();
+    this.calls = new Calls(new Worker('looks_worker.mjs', { type: 'module' }));
     this.session = session;
     this.place = session.ways.root;
-    const { definition, locals, workers } = given;
     const isKept = Array.isArray(globalThis.llbmTranscript);
     // Whoever compares answers with those of `llbm step` needs those of the worker too.
     if (isKept) globalThis.llbmLooks = () => this.call('transcript');
-    const said = saidOf(machine, definition);
-    return this.call('open', { module: machine.module, definition, said, locals, workers, isKept });
+    const { definition, locals, workers } = given;
+    const { digests, ops } = saidOf(machine, definition);
+    this.given = this.give(this.calls, [{ definition }, { digests }, { ops }, { locals }]);
+    return this.call('open', { module: machine.module, workers, isKept });
   }
 
-  take({ id, value, fault }) {
-    const waits = this.waiting.get(id);
-    this.waiting.delete(id);
-    if (fault === undefined) waits?.done(value);
-    else waits?.failed(new Error(fault));
-  }
-
-  fail(why) {
-    for (const { failed } of this.waiting.values()) failed(new Error(why));
-    this.waiting.clear();
+  // Gives a worker what can be large, in turns, since all of it is copied.
+  async give(calls, parts) {
+    for (const part of parts) {
+      calls.call('give', part).catch(() => {});
+      await nextTurn();
+    }
   }
 
   /** Returns a promise of the answer to a call. */
-  call(call, ...args) {
-    this.count += 1;
-    const id = this.count;
-    return new Promise((done, failed) => {
-      this.waiting.set(id, { done, failed });
-      this.worker.postMessage({ id, call, args });
-    });
+  async call(...call) {
+    const { calls } = this;
+    await this.given;
+    return calls.call(...call);
   }
 
   /**

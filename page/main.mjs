@@ -1,8 +1,9 @@
 /** The page: its views over one session. */
 
+import { Breaks } from './breaks.mjs';
 import { ChangesView } from './changes_view.mjs';
 import { DefinitionView } from './definition_view.mjs';
-import { by, make, nextTurn, oncePerFrame } from './dom.mjs';
+import { by, make, oncePerFrame } from './dom.mjs';
 import { explained } from './faults.mjs';
 import { whyIdle } from './idle_workers.mjs';
 import { foreignOf, foreignStatuses } from './foreign.mjs';
@@ -13,24 +14,25 @@ import { listen } from './keyboard.mjs';
 import { openLink } from './links.mjs';
 import { Looker } from './looks_client.mjs';
 import { Machine } from './machine.mjs';
+import { Moves } from './moves.mjs';
 import { VertexNotes } from './notes.mjs';
 import { OpenView } from './open_view.mjs';
 import { textOf } from './reading.mjs';
-import { refusalOf, Session } from './session.mjs';
+import { SessionClient } from './session_client.mjs';
 import { OrdersView } from './orders_view.mjs';
 import { SearchView } from './search_view.mjs';
 import { shareView } from './share_view.mjs';
 import { loadTables } from './tables.mjs';
 import { listenToSplitters } from './splitters.mjs';
 import { TimeView } from './time_view.mjs';
+import { inTurns } from './turns.mjs';
 import { foreignDetails, notesElement, vertexDetails } from './vertex_details.mjs';
 
 const MODULE = 'llbm.wasm';
-// The page goes on for so many events at once, or for so many milliseconds: then it shows how far it is, and what a
-// person does is looked at.
-const MOST_EVENTS = 500;
-const SLICE = 25;
-const NO_BREAKS = { claim: new Set(), settle: new Set() };
+
+// This is said of an opening that takes more milliseconds than that.
+const OPENING = 'The machine opens the definition …';
+const PAUSE = 300;
 
 class Page {
   constructor(machine) {
@@ -45,59 +47,97 @@ class Page {
     this.graph = new GraphView(
       (vertex, focus) => this.select(vertex, focus), (vertex, kind) => this.setBreak(vertex, kind),
     );
-    this.time = new TimeView((place) => this.travel(() => this.session.going(place)));
+    this.moves = new Moves({
+      begin: () => this.begin(), progress: () => this.progress(), arrive: (found) => this.arrive(found),
+    });
+    this.time = new TimeView((place) => this.goTo(place));
     this.looker = new Looker();
     this.changes = new ChangesView(this.looker);
-    this.search = new SearchView(this.looker, ({ number }) => this.travel(() => this.session.goingTo(number)));
+    this.search = new SearchView(this.looker, ({ number }) => this.moves.travel(null, 'number', number));
     this.orders = new OrdersView(this.looker);
     this.share = shareView();
     this.kept = new KeptState();
     /** @type {any} */
     this.statuses = null;
+    this.asked = null;
     this.isLooking = false;
-    this.isMoving = false;
-    this.isStopped = false;
-    this.after = null;
     this.lookLater = oncePerFrame(() => setTimeout(() => this.look()));
   }
 
-  /** Opens a session. Throws where the machine refuses what is given. */
+  // Does what opens something, unless something else is asked for meanwhile; that is what the signal says.
+  async opening(work) {
+    this.asked?.abort();
+    const asked = new AbortController();
+    this.asked = asked;
+    const waits = setTimeout(() => this.say(OPENING), PAUSE);
+    try {
+      await work(asked.signal);
+    } catch (fault) {
+      if (!asked.signal.aborted) throw fault;
+    } finally {
+      clearTimeout(waits);
+      if (this.asked === asked) this.asked = null;
+      if (!this.asked && by('said').textContent === OPENING) this.say('');
+    }
+  }
+
+  /** Opens a session. The promise is refused where the machine refuses what is given. */
   open(given) {
-    const session = new Session(this.machine, given.definition, given.locals, given.workers);
-    (given.lines ?? []).every((line) => session.event(line));
-    session.follow(given.record ?? []);
-    session.setBreakAtFailures(by('break-fail').checked);
-    this.stop();
+    return this.opening(async (signal) => {
+      const session = await SessionClient.open(this.machine, given, by('break-fail').checked, signal);
+      try {
+        const placed = await inTurns(this.graph.placing(session.graph, session.entries), () => !signal.aborted);
+        if (!signal.aborted) this.show(session, given, placed);
+      } finally {
+        if (this.session !== session) session.end();
+      }
+    });
+  }
+
+  // Shows a session that was opened.
+  show(session, given, placed) {
+    this.close();
     this.session = session;
-    this.foreign = null;
     this.given = given;
     this.entries = session.entries;
-    this.selected = null;
+    this.moves.open(session);
     by('views').classList.remove('empty', 'foreign');
     by('to-share').disabled = false;
     const { vertices, result } = session.graph;
     const word = vertices.length === 1 ? 'vertex' : 'vertices';
-    const memory = Math.ceil(session.handle.memory() / 2 ** 20);
+    const memory = Math.ceil(session.memory / 2 ** 20);
     by('graph-size').textContent = `${vertices.length} ${word}, result ${result}; the machine has ${memory} MiB`;
     const workers = Array.from({ length: given.workers }, (_, worker) => worker);
     by('worker').replaceChildren(...workers.map((worker) => make('option', { value: worker, text: worker })));
+    // A person can have changed it meanwhile.
+    session.setBreakAtFailures(by('break-fail').checked);
     this.notes = new VertexNotes(this.entries);
     this.looker.open(this.machine, session, given).catch((fault) => this.say(fault.message));
     this.search.open(this.entries);
     this.orders.open(session);
     this.isLooking = false;
-    this.graph.open(session.graph, this.entries, this.notes);
+    this.graph.open(placed, session.graph, this.entries, this.notes);
     this.time.open(session, this.entries);
-    this.text.open(given.definition, given.written ?? null);
+    this.text.open(given.definition, given.written ?? null, given.isEdited);
     this.changes.open(session, this.entries, this.notes);
     this.say('');
     this.update();
   }
 
+  // Ends the session that is shown.
+  close() {
+    this.moves.open(null);
+    this.session?.end();
+    this.session = null;
+    this.foreign = null;
+    this.selected = null;
+    by('stop').hidden = true;
+  }
+
   // A promise of what a link of the session carries. Its text is that of the machine, or what a person wrote.
   async carried(isWritten) {
     const { definition, written, locals, workers } = this.given;
-    const lines = this.session.commands();
+    const lines = this.session.ways.commands();
     const text = isWritten && written ? written : await textOf(this.machine, definition);
     return { text, locals, workers, lines };
   }
@@ -105,14 +145,8 @@ class Page {
   // Opens what was written beside the graph, with the trees and as far along the record as before.
   edit(definition, written) {
     const { locals, workers } = this.given;
-    this.open({ definition, written, locals, workers, lines: this.session?.commands() });
-  }
-
-  /** Opens a session in which the workers have begun already: each did as many steps as are given. */
-  openBegun(given, steps) {
-    this.open(given);
-    for (let n = 0; n < steps; n += 1) this.session.stepAll();
-    this.update();
+    const lines = this.session?.ways.commands();
+    return this.open({ definition, written, locals, workers, lines, isEdited: true });
   }
 
   // A build of a server has a link of its own.
@@ -124,14 +158,11 @@ class Page {
   }
 
   /** Opens a build of the page's server: at the beginning of its record, which *Next* follows. */
-  openBuild(build) {
-    if (refusalOf(this.machine, build.definition)) {
-      this.openForeign(build.definition);
-      return;
-    }
-    this.open(build);
-    if (build.error) this.say(`This build failed: ${build.error}`);
+  async openBuild(build) {
+    await this.open(build);
     const { session } = this;
+    if (this.given !== build) return;
+    if (build.error) this.say(`This build failed: ${build.error}`);
     build.notes().then((served) => {
       if (this.session !== session) return;
       this.notes.add(served);
@@ -139,14 +170,19 @@ class Page {
     }, () => {});
   }
 
-  /** Draws a definition that the machine refuses. Throws where it can't be read into rows. */
+  /** Draws a definition that the machine refuses. The promise is refused where it can't be read into rows. */
   openForeign(definition) {
-    const foreign = foreignOf(this.machine, definition);
-    this.stop();
-    this.session = null;
+    return this.opening(async (signal) => {
+      const foreign = foreignOf(this.machine, definition);
+      const placed = await inTurns(this.graph.placing(foreign.graph, foreign.entries), () => !signal.aborted);
+      if (!signal.aborted) this.showForeign(foreign, definition, placed);
+    });
+  }
+
+  showForeign(foreign, definition, placed) {
+    this.close();
     this.foreign = foreign;
     this.entries = foreign.entries;
-    this.selected = null;
     by('views').classList.remove('empty');
     by('views').classList.add('foreign');
     this.given = { locals: this.openView.allTrees(), workers: Number(by('workers').value) };
@@ -155,8 +191,8 @@ class Page {
     by('vertex-details').replaceChildren();
     this.statuses = foreignStatuses(foreign);
     this.notes = new VertexNotes(this.entries);
-    this.graph.open(foreign.graph, this.entries, this.notes);
-    this.graph.update(this.statuses, NO_BREAKS);
+    this.graph.open(placed, foreign.graph, this.entries, this.notes);
+    this.graph.update(this.statuses, new Breaks());
     this.text.open(definition);
     showForeign(foreign, (vertex) => this.select(vertex, true), () => this.openView.takeAdopted(foreign.adoption));
     this.say('');
@@ -183,97 +219,34 @@ class Page {
       + (fault.name === 'Trap' ? ' Open the definition again: nothing that was shown before is wrong.' : ''));
   }
 
-  /**
-   * Goes on by a generator of `makeMoves`, in slices, and shows where the session is then. `atEnd` is called with what
-   * the generator returned. A move that is asked for meanwhile stops this one, and begins where it stopped.
-   *
-   * @param {() => Generator} makeMoves
-   * @param {(how: any) => unknown} atEnd
-   */
-  async travel(makeMoves, atEnd = () => {}) {
-    if (!this.session) return;
-    if (this.isMoving) {
-      this.after = () => this.travel(makeMoves, atEnd);
-      this.isStopped = true;
-      return;
-    }
-    this.say('');
-    const { session } = this;
-    const start = performance.now();
-    this.begin();
-    try {
-      const ended = await this.sliced(session, makeMoves());
-      if (ended) atEnd(ended.value);
-    } catch (fault) {
-      this.sayFault(fault);
-    }
-    if (this.session === session) this.arrive(start);
-  }
-
-  // Returns the last turn of a generator, or null if it was stopped. What is done in one slice is done at once.
-  sliced(session, moves) {
-    const turn = () => {
-      const end = performance.now() + SLICE;
-      let one = moves.next();
-      let count = 1;
-      for (; !one.done && count < MOST_EVENTS && performance.now() < end; count += 1) one = moves.next();
-      // Whoever wants to know how many events each slice has sets this list.
-      globalThis.llbmSlices?.push(count);
-      return one;
-    };
-    const first = turn();
-    return first.done ? first : this.further(session, turn);
-  }
-
-  async further(session, turn) {
-    for (;;) {
-      by('stop').hidden = false;
-      this.time.progress();
-      await nextTurn();
-      if (this.isStopped || this.session !== session) return null;
-      const one = turn();
-      if (one.done) return one;
-    }
-  }
-
+  // What follows is called before each move, after each slice of a long one, and at its end.
   begin() {
-    this.isMoving = true;
-    this.isStopped = false;
+    this.say('');
     document.body.dataset.looked = 'no';
   }
 
-  arrive(start) {
-    this.isMoving = false;
-    by('stop').hidden = true;
-    document.body.dataset.spent = (performance.now() - start).toFixed(3);
-    this.update();
-    const { after } = this;
-    this.after = null;
-    after?.();
+  progress() {
+    by('stop').hidden = false;
+    this.time.progress();
   }
 
-  /** Stops a move that goes on. */
-  stop() {
-    this.after = null;
-    this.isStopped = true;
-    this.isMoving = false;
+  arrive({ value, fault, atEnd, spent }) {
     by('stop').hidden = true;
+    document.body.dataset.spent = spent.toFixed(3);
+    if (fault) this.sayFault(fault);
+    else if (value !== 'stopped') atEnd?.(value);
+    this.update();
   }
 
-  /** Does a move of the session, and shows where it is then; nothing while another move goes on. */
-  move(call) {
-    if (!this.session || this.isMoving) return;
-    this.say('');
-    const start = performance.now();
-    this.guarded(call);
-    document.body.dataset.spent = (performance.now() - start).toFixed(3);
-    this.update();
+  /** Goes to a place on any way of the session. */
+  goTo({ way, number }) {
+    this.moves.travel(null, 'place', way, number);
   }
 
   /** Shows where the session is. */
   update() {
     this.guarded(() => {
-      this.statuses = this.session.statuses();
+      this.statuses = this.session.statuses;
       const { event } = this.session.ways.at;
       if (event) this.selected = event.vertex;
       this.graph.update(this.statuses, this.session.breaks);
@@ -310,6 +283,8 @@ class Page {
       const spoken = await this.changes.update();
       if (this.session !== session) return;
       this.isLooking = false;
+      // A move that goes on looks at its end.
+      if (this.moves.now) return;
       if (at !== session.ways.at) {
         this.lookLater();
         return;
@@ -353,7 +328,7 @@ class Page {
 
   setBreak(vertex, kind) {
     if (!this.session) return;
-    this.guarded(() => this.session.setBreak(vertex, kind));
+    this.session.setBreak(vertex, kind);
     this.graph.update(this.statuses, this.session.breaks);
   }
 
@@ -362,44 +337,27 @@ class Page {
   }
 
   step() {
-    this.move(() => {
-      if (!this.session.step(this.worker())) this.say(whyIdle(this.worker(), this.session.statuses(), this.entries));
-    });
-  }
-
-  /** Does what each worker can do. */
-  stepAll() {
-    this.move(() => {
-      if (!this.session.stepAll()) this.sayEnd();
-    });
+    const worker = this.worker();
+    this.moves.step((did) => did || this.say(whyIdle(worker, this.session.statuses, this.entries)), 'step', worker);
   }
 
   /** Goes on in an order at random, and takes the next seed for the next time. */
   shuffle() {
     const seed = Number(by('seed').value) || 0;
     by('seed').value = seed + 1;
-    this.travel(() => this.session.goingAtRandom(seed), (how) => how === 'end' && this.sayEnd());
+    this.moves.travel((how) => this.sayEnd(how !== 'end'), 'shuffle', seed);
   }
 
-  next() {
-    this.move(() => {
-      if (!this.session.next()) this.sayEnd();
-    });
-  }
-
-  go() {
-    this.travel(() => this.session.goingOn(), (how) => how === 'end' && this.sayEnd());
-  }
-
-  sayEnd() {
-    const failed = this.session.statuses().count('failed');
+  // Says that the run is complete, unless something was done.
+  sayEnd(did) {
+    if (did) return;
+    const failed = this.session.statuses.count('failed');
     this.say(failed ? `The run is complete: ${failed} failed.` : 'The run is complete.');
   }
 
   cancel() {
-    this.move(() => {
-      if (!this.session.event(`cancel ${this.worker()}`)) this.say(`Worker ${this.worker()} runs nothing.`);
-    });
+    const worker = this.worker();
+    this.moves.step((did) => did || this.say(`Worker ${worker} runs nothing.`), 'cancel', worker);
   }
 
   // From the way before the last fork to the next one there: the first event of each is beside that of the present way.
@@ -408,7 +366,7 @@ class Page {
     const at = forks.at(-1);
     if (!at) return;
     const beside = at.before.after;
-    this.travel(() => this.session.going(beside[(beside.indexOf(at) + 1) % beside.length]));
+    this.goTo(beside[(beside.indexOf(at) + 1) % beside.length]);
   }
 
   async showShare() {
@@ -420,17 +378,18 @@ class Page {
   listen() {
     listenToSplitters();
     const moves = {
-      next: () => this.next(), back: () => this.move(() => this.session.back()), go: () => this.go(),
+      next: () => this.moves.step((did) => this.sayEnd(did), 'next'), back: () => this.moves.step(null, 'back'),
+      go: () => this.moves.travel((how) => this.sayEnd(how !== 'end'), 'go'),
       step: () => this.step(), cancel: () => this.cancel(),
-      first: () => this.travel(() => this.session.going(this.session.ways.root)),
-      last: () => this.travel(() => this.session.going(this.session.ways.end())),
-      stop: () => { this.isStopped = true; }, all: () => this.stepAll(), shuffle: () => this.shuffle(),
+      first: () => this.session && this.goTo(this.session.ways.root),
+      last: () => this.session && this.goTo(this.session.ways.end()), stop: () => this.moves.stop(),
+      all: () => this.moves.step((did) => this.sayEnd(did), 'all'), shuffle: () => this.shuffle(),
     };
     const buttons = ['next', 'back', 'go', 'step', 'cancel', 'first', 'stop', 'all', 'shuffle'];
     for (const id of buttons) by(id).addEventListener('click', moves[id]);
     by('worker').addEventListener('change', () => this.updateWorker());
     by('break-fail').addEventListener('change', (event) => {
-      if (this.session) this.guarded(() => this.session.setBreakAtFailures(event.target.checked));
+      this.session?.setBreakAtFailures(event.target.checked);
     });
     by('to-open').addEventListener('click', () => this.openView.show());
     by('to-share').addEventListener('click', () => this.showShare());
@@ -473,8 +432,9 @@ async function start() {
   const page = new Page(machine);
   page.listen();
   await Promise.all([loadTables('tables.json'), page.openView.loadExamples('examples/list.json')]);
-  await openLink(page, machine);
-  addEventListener('hashchange', () => openLink(page, machine));
+  const open = () => page.openView.reading(() => openLink(page, machine));
+  await open();
+  addEventListener('hashchange', open);
   document.body.dataset.ready = 'yes';
 }
 

@@ -57,13 +57,23 @@ function filesIn(source) {
   return partsIn(source, 2).map((info) => ({ name: textIn(info, 1), lines: textIn(info, 2).split('\n') }));
 }
 
+// So many entries are gone over before the next turn.
+const MOST_AT_ONCE = 500;
+
 /** The metadata and the places of a definition, by the digests of entries. Each is read when it is asked for. */
 export class Metadata {
-  constructor(definition) {
+  /** Finds them, when the generator ends. */
+  * reading(definition) {
     const source = messageIn(definition, 3);
-    this.described = mapIn(definition, 2);
+    yield;
+    this.described = new Map();
+    for (const [number, entry] of partsIn(definition, 2).entries()) {
+      this.described.set(textIn(entry, 1), messageIn(entry, 2));
+      if (number % MOST_AT_ONCE === 0) yield;
+    }
     this.locations = mapIn(source, 1);
     this.files = filesIn(source);
+    return this;
   }
 
   /** Returns the metadata of an entry as bytes, or null. */

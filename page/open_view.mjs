@@ -5,7 +5,7 @@ import { isText, rowInWords } from './definition.mjs';
 import { by, make } from './dom.mjs';
 import { explained } from './faults.mjs';
 import { definitionOf, treeOfFile } from './reading.mjs';
-import { assembled, refusalOf } from './session.mjs';
+import { refusalOf } from './session.mjs';
 import { treeOfFiles } from './sources.mjs';
 
 const EMPTY = 'd 0755 0 0 /\n';
@@ -114,7 +114,7 @@ export class OpenView {
     const example = this.examples.find((one) => one.name === name);
     const { definition: bytes, trees } = await loadedExample(example);
     const written = isText(bytes) ? new TextDecoder().decode(bytes) : null;
-    const definition = written === null ? bytes : assembled(this.machine, written);
+    const { definition } = await definitionOf(this.machine, bytes, written !== null);
     return { definition, written, locals: trees.map(([local, { text }]) => [local, text]), workers: example.workers };
   }
 
@@ -280,10 +280,11 @@ export class OpenView {
     try {
       if (this.isEmpty) throw new Error(NO_DEFINITION);
       const { definition, names } = await this.read();
-      if (canBeDrawn(refusalOf(this.machine, definition))) this.onForeign(definition);
+      if (canBeDrawn(refusalOf(this.machine, definition))) await this.onForeign(definition);
       else {
         const written = this.given ? null : by('definition').value;
-        this.onOpen({ definition, written, locals: this.givenTrees(names), workers: Number(by('workers').value) });
+        const locals = this.givenTrees(names);
+        await this.onOpen({ definition, written, locals, workers: Number(by('workers').value) });
       }
       this.dialog.close();
     } catch (fault) {

@@ -8,7 +8,7 @@ import { eventOf } from './record.mjs';
 // Does the commands of a record in a new session, and goes on to the end as the machine chooses.
 function ended(session, commands) {
   for (const command of commands) session.event(command);
-  session.took(session.lines('go'));
+  session.end();
   return session;
 }
 

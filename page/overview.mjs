@@ -1,7 +1,8 @@
 /** The overview of a graph: all of it, small, with the part that is seen. A press or a drag moves the window there. */
 
-import { by, inTurns } from './dom.mjs';
+import { by } from './dom.mjs';
 import { paintingColumns, viewOf } from './graph_paint.mjs';
+import { inTurns } from './turns.mjs';
 
 const SIDE = { width: 170, height: 120, least: 28 };
 // It is painted again at most so often, in milliseconds, since 65,535 vertices can change at each step.

@@ -1,31 +1,29 @@
 /** Reading of what a person gives, by workers: files for a local source, and definitions. */
 
-import { disassembled, keepRead } from './session.mjs';
+import { Calls } from './calls.mjs';
+import { disassembled, keepRead, readDefinition } from './session.mjs';
 
-// The text of a definition of so many bytes is made at once, and that of a larger one by a worker.
-const MOST_AT_ONCE = 50000;
+// A definition of so many bytes is read at once, and its text made, and that of a larger one by a worker.
+const MOST_AT_ONCE = 10000;
 const texts = new WeakMap();
 
-// Returns a promise of the one answer of a worker to what it is given.
-async function answerOf(worker, given, moved = []) {
+// Returns a promise of the one answer of a worker.
+async function answerOf(worker, ...call) {
+  const calls = new Calls(worker);
   try {
-    return await new Promise((done, failed) => {
-      worker.addEventListener('message', ({ data: { value, fault, what } }) => {
-        if (fault === undefined) done(value);
-        else failed(Object.assign(new Error(fault), { what }));
-      });
-      worker.addEventListener('error', (event) => failed(new Error(event.message || 'the worker ended')));
-      worker.postMessage(given, moved);
-    });
+    return await calls.call(...call);
   } finally {
-    worker.terminate();
+    calls.end();
   }
 }
 
+function readByWorker(machine, call, ...args) {
+  return answerOf(new Worker('definition_worker.mjs', { type: 'module' }), call, machine.module, ...args);
+}
+
 /** Returns a promise of the tree text of a file (a tar, also packed, or a tree's text), and what was left out. */
-export async function treeOfFile(file) {
-  const bytes = new Uint8Array(await file.arrayBuffer());
-  return answerOf(new Worker('sources_worker.mjs', { type: 'module' }), bytes, [bytes.buffer]);
+export function treeOfFile(file) {
+  return answerOf(new Worker('sources_worker.mjs', { type: 'module' }), 'tree', file);
 }
 
 /**
@@ -33,9 +31,8 @@ export async function treeOfFile(file) {
  * sources. What a machine says of it is kept.
  */
 export async function definitionOf(machine, bytes, isWritten) {
-  const given = { module: machine.module, bytes, isWritten };
-  const worker = new Worker('definition_worker.mjs', { type: 'module' });
-  const { definition, names, ...read } = await answerOf(worker, given);
+  if (bytes.length <= MOST_AT_ONCE) return readDefinition(machine, bytes, isWritten);
+  const { definition, names, ...read } = await readByWorker(machine, 'read', bytes, isWritten);
   keepRead(definition, read);
   return { definition, names };
 }
@@ -44,8 +41,7 @@ export async function definitionOf(machine, bytes, isWritten) {
 export function textOf(machine, definition) {
   const made = async () => {
     if (definition.length <= MOST_AT_ONCE) return disassembled(machine, definition);
-    const given = { module: machine.module, bytes: definition, isText: true };
-    return (await answerOf(new Worker('definition_worker.mjs', { type: 'module' }), given)).text;
+    return readByWorker(machine, 'text', definition);
   };
   if (!texts.has(definition)) texts.set(definition, made());
   return texts.get(definition);

@@ -4,12 +4,14 @@
  * docs/FORMATS.md, "A stepping session", has the lines that a session takes and what it answers.
  */
 
-import { keepSaid, localsOf, saidOf, verticesOf } from './definition.mjs';
+import { keepSaid, localsOf, readingEntries, saidOf, verticesOf } from './definition.mjs';
 import { diceOf, shuffled } from './seeded_order.mjs';
 import { STATUS } from './machine.mjs';
-import { eventOf, graphOf } from './record.mjs';
+import { graphOf } from './record.mjs';
 import { Statuses } from './statuses.mjs';
 import { linesOf } from './tree_text.mjs';
+import { atOnce } from './turns.mjs';
+import { Breaks } from './breaks.mjs';
 import { Ways } from './event_tree.mjs';
 
 /** What is before the name of a local source in the line for its tree, which the page has and no line of a session. */
@@ -51,28 +53,35 @@ export function disassembled(machine, definition) {
 
 const planned = new WeakMap();
 
-// The lines of a definition's vertices, or that of the fault for which it is refused; they are kept with its bytes.
+// The rows of a definition's vertices, or the line of the fault for which it is refused; they are kept with its bytes.
 function plannedBy(machine, definition) {
   if (!planned.has(definition)) {
     const handle = machine.handle();
     const isDone = handle.plan(definition) === STATUS.done;
     const fault = isDone ? '' : handle.messages().trim() || 'no memory';
-    planned.set(definition, { text: isDone ? handle.text() : '', fault });
+    const vertices = isDone ? verticesOf(machine, definition, digestsIn(linesOf(handle.text()))) : [];
+    planned.set(definition, { fault, rows: Uint32Array.from(vertices.map(({ row }) => row)) });
   }
   return planned.get(definition);
+}
+
+/** Returns what a definition that the machine takes says of its vertices, when the generator ends. */
+export function* readingVertices(machine, definition) {
+  const { rows } = yield* readingEntries(machine, definition);
+  return [...plannedBy(machine, definition).rows].map((row) => rows[row]);
 }
 
 /** Returns a definition, given by its bytes or by the text of its entries, and what a machine says of it. */
 export function readDefinition(machine, bytes, isWritten) {
   const definition = isWritten ? assembled(machine, bytes) : bytes;
-  const { text, fault } = plannedBy(machine, definition);
-  const vertices = verticesOf(machine, definition, digestsIn(linesOf(text)));
-  return { definition, fault, names: localsOf(vertices), said: saidOf(machine, definition) };
+  const { rows, fault } = plannedBy(machine, definition);
+  const names = localsOf(atOnce(readingVertices(machine, definition)));
+  return { definition, fault, rows, names, said: saidOf(machine, definition) };
 }
 
-/** Keeps what a machine said of a definition: of its entries, and the fault for which it is refused. */
-export function keepRead(definition, { fault, said }) {
-  planned.set(definition, { text: '', fault });
+/** Keeps what a machine said of a definition: of its entries, which are vertices, and the fault that it has. */
+export function keepRead(definition, { fault, rows, said }) {
+  planned.set(definition, { fault, rows });
   keepSaid(definition, said);
 }
 
@@ -96,13 +105,21 @@ export class Session {
       checked(this.handle, this.handle.local(name, text), `the tree of ${name}`);
     }
     checked(this.handle, this.handle.open(definition, workers), 'the session');
+    this.given = { machine, definition };
+    this.found = null;
     this.graph = graphOf(this.lines('graph'));
-    this.entries = verticesOf(machine, definition, digestsIn(this.lines('digests')));
     this.workers = workers;
     this.locals = new Map(locals);
     this.follows = false;
     this.ways = new Ways();
-    this.breaks = { claim: new Set(), settle: new Set(), fail: false };
+    this.breaks = new Breaks();
+  }
+
+  /** What the definition says of each vertex. It is read when it is asked for. */
+  get entries() {
+    const { machine, definition } = this.given;
+    this.found ??= verticesOf(machine, definition, digestsIn(this.lines('digests')));
+    return this.found;
   }
 
   /** Returns the text that the machine answers to a line. */
@@ -136,25 +153,20 @@ export class Session {
     return new Statuses(this.text('status'));
   }
 
-  // Adds the events of an answer to the way. A step is of the vertex that its worker claimed last.
-  took(lines) {
-    const events = lines.map(eventOf).filter(Boolean);
-    for (const event of events) {
-      event.vertex ??= this.ways.at.claims.get(event.worker);
-      this.ways.add(event);
-    }
-    return events;
-  }
-
   /** Does the event of a line such as `next` or `claim 0 1`; returns the event, or null where it is refused. */
   event(line) {
-    return this.took(this.lines(line))[0] ?? null;
+    return this.ways.take(this.lines(line))[0] ?? null;
   }
 
-  /** Takes the events of a record: `next` and `goingOn` follow them, and the machine has to say each line again. */
-  follow(events) {
-    this.ways.lay(events);
-    this.follows = events.length > 0;
+  /** Goes on to the end, as the machine chooses. */
+  end() {
+    this.ways.take(this.lines('go'));
+  }
+
+  /** Takes the text of a record: `next` and `goingOn` follow it, and the machine has to say each line again. */
+  follow(record) {
+    atOnce(this.ways.laying(record));
+    this.follows = this.ways.end().number > 0;
   }
 
   /** Does the next event: of the record that is followed, or the one that the machine chooses; null at the end. */
@@ -165,16 +177,10 @@ export class Session {
     return place.event;
   }
 
-  // Returns whether a breakpoint is after an event.
-  stopsAfter({ kind, vertex, reply }) {
-    const isFail = kind === 'settle' && reply.endsWith(' failed') && this.breaks.fail;
-    return isFail || Boolean(this.breaks[kind]?.has?.(vertex));
-  }
-
   /** Goes on to a breakpoint or to the end, an event for each turn of the generator; returns `stop` or `end`. */
   * goingOn() {
     while (this.next()) {
-      if (this.stopsAfter(this.ways.at.event)) return 'stop';
+      if (this.breaks.stopsAfter(this.ways.at.event)) return 'stop';
       yield;
     }
     return 'end';
@@ -210,7 +216,7 @@ export class Session {
     const workers = Array.from({ length: this.workers }, (_, worker) => worker);
     const any = () => shuffled(workers, dice).some((worker) => this.step(worker, (ready) => shuffled(ready, dice)));
     while (any()) {
-      if (this.stopsAfter(this.ways.at.event)) return 'stop';
+      if (this.breaks.stopsAfter(this.ways.at.event)) return 'stop';
       yield;
     }
     return 'end';
@@ -245,7 +251,7 @@ export class Session {
 
   /** Goes to a place on any way, at once. */
   to(place) {
-    for (const moves = this.going(place); !moves.next().done;);
+    atOnce(this.going(place));
   }
 
   /** Goes to the event of a number, on the way that the session is on, or on as the machine chooses. */
@@ -265,22 +271,5 @@ export class Session {
     } finally {
       this.to(place);
     }
-  }
-
-  /** Sets the breakpoints of a vertex: `claim`, `settle` or none. */
-  setBreak(vertex, kind) {
-    this.breaks.claim.delete(vertex);
-    this.breaks.settle.delete(vertex);
-    if (kind) this.breaks[kind].add(vertex);
-  }
-
-  /** Sets whether `goingOn` stops at a vertex that failed. */
-  setBreakAtFailures(is) {
-    this.breaks.fail = is;
-  }
-
-  /** Returns the lines that bring a new session to the present place. */
-  commands() {
-    return this.ways.path().filter((place) => place.event).map((place) => place.event.command);
   }
 }

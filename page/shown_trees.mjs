@@ -42,8 +42,8 @@ function shown({ name, line, changes }) {
 
 /** A session for looks, and what it showed last. */
 export class Looks {
-  constructor(machine, { definition, said, locals, workers, isKept }) {
-    keepSaid(definition, said);
+  constructor(machine, { definition, digests, ops, locals, workers, isKept }) {
+    keepSaid(definition, { digests, ops });
     this.given = [machine, definition, locals, workers];
     if (isKept) globalThis.llbmTranscript = [];
     this.session = new Session(...this.given);

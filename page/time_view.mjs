@@ -4,9 +4,10 @@
  * inside the window are in the page.
  */
 
-import { by, draw, inTurns, oncePerFrame } from './dom.mjs';
+import { by, draw, oncePerFrame } from './dom.mjs';
 import { isFailure, isFault, wordsOf } from './record.mjs';
 import { Track } from './time_track.mjs';
+import { inTurns } from './turns.mjs';
 
 const STEP = 24;
 const ROW = 24;
@@ -61,6 +62,7 @@ export class TimeView {
     this.slider.setAttribute('aria-valuetext', words);
     by('place').textContent = `${words} (${ways.at.number} of ${this.end.number} events)`;
     this.rows = this.rowsOf();
+    this.size();
     this.reveal();
     this.render();
     if (this.following) this.followFurther(following);
@@ -114,6 +116,13 @@ export class TimeView {
     return TOP + (this.session.workers + this.lanes.length) * ROW + GAP + row * ROW + ROW / 2;
   }
 
+  size() {
+    const most = Math.max(this.end.number, ...this.rows.map(({ places }) => places.at(-1).number));
+    this.svg.setAttribute('width', this.x(most) + STEP);
+    this.svg.setAttribute('height', this.below(this.rows.length) - ROW / 2 + 4);
+  }
+
+  // Moves the present event into sight, once all events have their room.
   reveal() {
     const x = this.x(this.session.ways.at.number);
     const { scrollLeft, clientWidth } = this.frame;
@@ -124,9 +133,6 @@ export class TimeView {
   /** Draws what is inside the window. */
   render() {
     if (!this.session) return;
-    const most = Math.max(this.end.number, ...this.rows.map(({ places }) => places.at(-1).number));
-    this.svg.setAttribute('width', this.x(most) + STEP);
-    this.svg.setAttribute('height', this.below(this.rows.length) - ROW / 2 + 4);
     const { scrollLeft, clientWidth } = this.frame;
     const first = Math.max(0, Math.floor((scrollLeft - LEFT - AROUND) / STEP));
     const last = Math.ceil((scrollLeft + clientWidth - LEFT + AROUND) / STEP);

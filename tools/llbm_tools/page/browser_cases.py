@@ -7,8 +7,8 @@ import io
 import tarfile
 
 from llbm_tools.page import (
-    assets, contrast, control_cases, editing_cases, foreign_cases, graph_cases, large_page_cases, module_cases,
-    order_cases, proof_cases, served_cases, statement_cases, step_view_cases,
+    assets, contrast, control_cases, editing_cases, foreign_cases, graph_cases, hostile_cases, large_page_cases,
+    module_cases, order_cases, proof_cases, served_cases, statement_cases, step_view_cases,
 )
 from llbm_tools.page.page_driver import NARROW, WIDE, Page, check, same
 
@@ -318,30 +318,50 @@ def the_start(page: Page) -> None:
 
 def a_trap(page: Page) -> None:
     """Makes the module stop in a session: the page tells it, and a new session works."""
-    script = page.browser.send("Page.addScriptToEvaluateOnNewDocument", {"source": TRAPPING})["identifier"]
+    place = page.folder / "trapping_worker.mjs"
+    place.write_text(TRAPPING, "utf-8")
+    script = page.browser.send("Page.addScriptToEvaluateOnNewDocument", {"source": WITH_TRAPS})["identifier"]
     page.example("tour")
     page.browser.send("Page.removeScriptToEvaluateOnNewDocument", {"identifier": script})
-    page.click("next")
-    page.run("globalThis.llbmTrap = true")
-    page.click("next")
+    for _ in range(BEFORE_A_TRAP):
+        page.click("next")
     check("stopped" in page.text("said") and "Open the definition again" in page.text("said"), page.text("said"))
-    page.run("globalThis.llbmTrap = false")
+    page.run("globalThis.llbmTraps = false")
     page.click("to-open")
     page.click("open-now")
     page.click("next")
     same(page.record(), ["claim 0 0"], "the session after it")
 
 
-# Makes each line of a session read outside of the module's memory first, while a variable says so: that traps.
+# A worker of a session whose module reads outside of its memory at a line: that traps. The page takes it in place of
+# its own until it is told not to.
+BEFORE_A_TRAP = 3
 TRAPPING = """
 const Instance = WebAssembly.Instance;
+let lines = 0;
 WebAssembly.Instance = function (...given) {
   const { exports } = new Instance(...given);
   const line = (...words) => {
-    if (globalThis.llbmTrap) exports.page_free(0xfffffff0n);
+    lines += 1;
+    if (lines > 6) exports.page_free(0xfffffff0n);
     return exports.llb_line(...words);
   };
   return { exports: { ...exports, llb_line: line } };
+};
+const early = [];
+const keep = (event) => early.push(event.data);
+addEventListener('message', keep);
+await import('./session_worker.mjs');
+removeEventListener('message', keep);
+for (const data of early) dispatchEvent(new MessageEvent('message', { data }));
+"""
+WITH_TRAPS = """
+globalThis.llbmTraps = true;
+globalThis.Worker = class extends Worker {
+  constructor(name, options) {
+    const isOne = globalThis.llbmTraps && name === 'session_worker.mjs';
+    super(isOne ? 'trapping_worker.mjs' : name, options);
+  }
 };
 """
 
@@ -351,5 +371,6 @@ CASES = (
     refused_files, a_source_without_a_tree, what_changed, caches_and_who_holds_them, sharing, the_keyboard,
     names_for_screen_readers, wide_and_narrow, a_trap, *statement_cases.CASES, *control_cases.CASES,
     contrast.contrast_of_all_texts, *foreign_cases.CASES, *served_cases.CASES, *step_view_cases.CASES,
-    *proof_cases.CASES, *order_cases.CASES, *graph_cases.CASES, *editing_cases.CASES, *large_page_cases.CASES,
+    *proof_cases.CASES, *order_cases.CASES, *graph_cases.CASES, *editing_cases.CASES, *hostile_cases.CASES,
+    *large_page_cases.CASES,
 )  # fmt: skip

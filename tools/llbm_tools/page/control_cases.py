@@ -52,17 +52,28 @@ def a_file_that_cannot_be_read(page: Page) -> None:
     same(page.text("open-said"), "Give a definition first.", "what is said of none")
 
 
+# Holds what a worker is to read as a tree, until a function is called.
+HELD = """(() => {
+  const post = Worker.prototype.postMessage;
+  Worker.prototype.postMessage = function held(data, ...more) {
+    const send = () => post.call(this, data, ...more);
+    if (data?.call === 'tree') globalThis.llbmRead = send;
+    else send();
+  };
+})()"""
+
+
 def a_tree_that_is_read_is_named(page: Page) -> None:
     """Gives a tree and then another one, which takes long: its row names that one, and Open waits for it."""
     page.load()
     page.choose("example", "tour")
     page.browser.wait("document.querySelectorAll('.local').length === 1")
-    page.run("File.prototype.arrayBuffer = () => new Promise((done) => { globalThis.llbmRead = done; })")
-    page.give_file("slow.tree", b"", ".local input")
+    page.run(HELD)
+    page.give_file("slow.tree", b"d 0755 0 0 /\n", ".local input")
     page.browser.wait("document.querySelector('.local .note').textContent === 'slow.tree is being read …'")
     page.submit()
     check("slow.tree is being read" in page.text("open-said"), page.text("open-said"))
-    page.run("globalThis.llbmRead(new TextEncoder().encode('d 0755 0 0 /\\n').buffer)")
+    page.run("globalThis.llbmRead()")
     page.browser.wait("document.querySelector('.local .note').textContent === 'slow.tree: 1 entry'")
 
 

@@ -111,7 +111,7 @@ class Page:
     def check_answers(self) -> None:
         """Checks that the program answers each line as the page's session and that of its worker did, and no faults."""
         same(self.browser.faults, [], "faults of the page's code")
-        for what, told in (("the session", "globalThis.llbmTranscript"), ("the looks", "globalThis.llbmLooks()")):
+        for what, told in (("the session", "globalThis.llbmSession()"), ("the looks", "globalThis.llbmLooks()")):
             said = self.run(told)
             check(len(said) > 2, f"{what}: nothing was asked")
             self.check_transcript(what, said)

@@ -12,3 +12,5 @@ declare const DecompressionStream: { new (format: string): DecompressionStream }
 /** A list for the lines of a session and their answers, if a test wants them. */
 declare var llbmTranscript: [string, string][] | undefined;
 declare var llbmLooks: (() => unknown) | undefined;
+declare var llbmSession: (() => unknown) | undefined;
+declare var llbmSlices: number[] | undefined;
