@@ -139,8 +139,9 @@ def door_of(command: Command) -> str:
 
 
 def line_of(name: str, *words: str) -> list[str]:
-    """Returns the words by which a process starts a command of the repository: one of either door, by its words."""
-    door = paths.ROOT / door_of(next(one for one in of_all() if one.words == name))
+    """Returns the words by which a process starts a command of either door; what neither has goes to the maintainers' one."""
+    is_users = any(one.words == name for one in of_users())
+    door = paths.ROOT / (USERS_DOOR if is_users else MAINTAINERS_DOOR)
     return [sys.executable, str(door), *name.split(" "), *words]
 
 

@@ -1,4 +1,4 @@
-"""SHA-256 for tools that may do without it: Python's module loads a library, so it is imported when it is first used."""
+"""SHA-256 for tools that may do without it: Python's module loads a library, so it is imported at its first use."""
 
 from typing import TYPE_CHECKING
 
