@@ -59,7 +59,7 @@ fn marked(rt: &impl Abort, alloc: Global, name: &str) -> Tree {
 
 pub(crate) fn key_of(rt: &impl Abort, alloc: Global, row: &Row<'_>) -> Key {
     let (id, mode, index, _) = *row;
-    written::key_of(rt, alloc, &(id, mode, index))
+    boards_from_texts::key_of(rt, alloc, &(id, mode, index))
 }
 
 fn needs_of(rt: &impl Abort, alloc: Global, words: &str) -> Vec<Need> {
