@@ -139,7 +139,7 @@ def door_of(command: Command) -> str:
 
 
 def line_of(name: str, *words: str) -> list[str]:
-    """Returns the words by which a process starts a command of either door; what neither has goes to the maintainers' one."""
+    """Returns the words that start a command of either door; one that neither has goes to the maintainers' door."""
     is_users = any(one.words == name for one in of_users())
     door = paths.ROOT / (USERS_DOOR if is_users else MAINTAINERS_DOOR)
     return [sys.executable, str(door), *name.split(" "), *words]
