@@ -231,8 +231,8 @@ def missing_sources(cause: str, data: bytes, given: list[str]) -> list[str]:
 
 
 class Begun(NamedTuple):
-    """A session that has begun: its graph, the digests of the vertices, the words of its sources, and the names of those
-    to whose directories filters were applied."""
+    """A session that has begun: its graph, the digests of the vertices, the words of its sources, and the names of
+    those to whose directories filters were applied."""
 
     session: Session
     show: Show
