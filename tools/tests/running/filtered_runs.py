@@ -1,4 +1,4 @@
-"""Tests that a debugger, `explain run` and `explain buildkit` give of a directory what the filters of its source select."""
+"""Tests that a debugger, `explain run` and `explain buildkit` give what a source of a directory selects by filters."""
 
 import os
 import pathlib
