@@ -96,7 +96,7 @@ def a_graph_gets_larger_and_smaller(page: Page) -> None:
     ready = page.run(f"{COLOR}('ready-box')")
     check(ready in page.run(f"{COLORS}('graph-far')"), "no box that is ready is painted")
     page.press("Z")
-    page.run(SHOWN)
+    page.browser.wait(f"{BOXES} > 0")
     check(0 < int(page.run(BOXES)) < 150, f"{page.run(BOXES)} boxes at full size")
     page.click("next")
     page.check_answers()
