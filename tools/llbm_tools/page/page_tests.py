@@ -121,7 +121,7 @@ def result(work: Callable[[], None]) -> str:
 
 
 def result_in_browser(page: Page, case: Callable[[Page], None]) -> str:
-    """Does a test in the browser; returns what is wrong."""
+    """Does a test in the browser, a second time if it fails, since it waits for pictures; returns what is wrong."""
 
     def work() -> None:
         """Does the test, and wants no exception of the page's code and no error in its console that is not awaited."""
@@ -132,7 +132,11 @@ def result_in_browser(page: Page, case: Callable[[Page], None]) -> str:
         found = [fault for fault in page.browser.faults if not any(one in fault for one in page.awaited)]
         same(found, [], "faults of the page's code")
 
-    return result(work)
+    wrong = result(work)
+    if wrong:
+        print(common.printable(f"tried again: {case.__name__}: {wrong}")[:1000], flush=True)
+        wrong = result(work)
+    return wrong
 
 
 def tests(options: argparse.Namespace) -> int:
