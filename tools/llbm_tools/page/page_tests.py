@@ -8,9 +8,9 @@ answer of its session is compared with that of `llbm step` to the same line. --p
 views there, with --all-pictures those of start, failure, a wide graph and two orders, wide, narrow, light and dark.
 
 Out: on standard output a line for each test that failed, measured times, and at the end `N passed, M failed, K
-skipped`. A test has failed with the words `no answer` if the browser did not show something in time: that says nothing
-of the page, only that the host was too busy or that the browser hangs. Where Node, a browser, or the page is missing,
-the tests that need it are skipped, and a line says why.
+skipped`. A test in the browser that fails is tried once more, and a line says so. It has failed with `no answer` if the
+browser did not show something in time: that says nothing of the page, only that the host was too busy or that the
+browser hangs. Where Node, a browser, or the page is missing, the tests that need it are skipped, and a line says why.
 
 Exit status: 0 all tests pass; 1 some fail; 2 the command line is refused, or there is no program; 3 a read or a write
 failed, or Node or the browser did.
